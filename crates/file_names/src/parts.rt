@@ -1,18 +1,17 @@
 // The parts of a file's name, read one by one.
 #![tactic(auto)]
 
-ghost use Rattle.std.specs.Prelude.{◌≡◌, ℕ, ◌^◌, ◌<◌, ◌∷◌, ◌-◌, ◌↔◌, IfSome, SomeIff, IsTrue, Bool, decimal};
+ghost use Rattle.std.specs.Prelude.{◌≡◌, ℕ, ◌-◌, ◌↔◌, IfSome, SomeIff, IsTrue, Bool};
 ghost use Rattle.std.specs.Int.{IsInRange};
 ghost use Rattle.file_names.specs.declared.Kind.{Kind};
-ghost use Rattle.file_names.specs.Names.{IsEndingOf, IsExtensionOf, StartsPlainly};
+ghost use Rattle.file_names.specs.Names.{IsEndingOf, IsExtensionOf, IsVolumeOf, StartsPlainly};
 
-use crate::{Kind, SHARDS};
+use crate::{Kind, SHARDS, TEMPORARY};
 
 /// The number that these are the digits of, without a sign or a leading zero.
 pub(crate) fn read_volume(digits: &str) -> Option<u32>
-    ensures spelled { IfSome result (λ volume. decimal volume ≡ digits.now) }
-    ensures found { (volume : ℕ) → volume < 2 ^ 32 → decimal volume ≡ digits.now
-        → result ≡ Some volume }
+    ensures spelled { IfSome result (λ volume. IsVolumeOf volume digits.now) }
+    ensures found { (volume : ℕ) → IsVolumeOf volume digits.now → result ≡ Some volume }
 {
     if starts_plainly(digits.as_bytes()) {
         digits.parse().ok()
@@ -38,7 +37,7 @@ pub(crate) fn read_ending(text: &str) -> Option<(Kind, bool)>
     ensures found { (kind : Kind) (temp : Bool) → IsEndingOf kind temp text.now
         → result ≡ Some (kind, temp) }
 {
-    match text.strip_suffix(".tmp") {
+    match text.strip_suffix(TEMPORARY) {
         Some(extension) => Some((read_kind(extension)?, true)),
         None => Some((read_kind(text)?, false)),
     }

@@ -1,11 +1,13 @@
 -- What follows the first dot of a name.
 use Rattle.std.proofs.Common.{◌≡◌, ◌≢◌, ℕ, ◌+◌, ◌-◌, ◌*◌, ◌/◌, ◌%◌, ◌<◌, Bool, true, false, cond, eqb, List, [], ◌∷◌, ◌++◌, length, get_or, drop, refl, sym, ◌∙◌, ap, subst, arith}
 use Rattle.std.specs.Prelude.{codes}
-use Rattle.std.proofs.lemmas.List.{append-nil, length-append}
+use Rattle.std.proofs.lemmas.List.{append-nil, append_cancel_right}
+use Rattle.std.proofs.Math.ListN.{length-append}
+use Rattle.std.proofs.lemmas.Bool.{false≢true}
 use Rattle.std.proofs.lemmas.Bool.Decides.{nat_tests}
 use Rattle.file_names.specs.declared.Kind.{Kind}
 use Rattle.file_names.specs.declared.Kind.TheVariants.{Dat, Idx, Shard, Ecx, Ecj, Vif}
-use Rattle.file_names.specs.Names.{IsEndingOf, IsExtensionOf, IsKind, ending, temp_mark}
+use Rattle.file_names.specs.Names.{IsEndingOf, IsExtensionOf, IsKind, ending}
 
 -- an ending begins with its only dot
 pub dotted : (kind : Kind) → ending kind ≡ 46 ∷ drop 1 (ending kind)
@@ -60,12 +62,30 @@ not_marked Ecx front e = omega (arith, ap length e, length-append front (codes "
 not_marked Ecj front e = omega (arith, ap length e, length-append front (codes ".tmp"))
 not_marked Vif front e = omega (arith, ap length e, length-append front (codes ".tmp"))
 
+-- the text of a temporary file's ending is marked
+marked_text : (kind : Kind) (text : List ℕ) → IsEndingOf kind true text → text ≡ drop 1 (ending kind) ++ codes ".tmp"
+marked_text kind text h = ap (drop 1) (sym h.spelled ∙ ap (λ (l : List ℕ). l ++ codes ".tmp") (dotted kind))
+
+final_text : (kind : Kind) (text : List ℕ) → IsEndingOf kind false text → IsExtensionOf kind text
+final_text kind text h = record { fits = h.fits; spelled = sym (append-nil (ending kind)) ∙ h.spelled }
+
 -- a text that ends with the mark is the ending of a temporary file
 pub from_marked : (kind : Kind) (temp : Bool) (front : List ℕ) → IsEndingOf kind temp (front ++ codes ".tmp") → (temp ≡ true) × IsExtensionOf kind front
-from_marked kind true front h = (refl, record { fits = h.fits; spelled = ? })
-from_marked kind false front h = absurd (not_marked kind front (sym (append-nil (ending kind)) ∙ h.spelled))
+from_marked kind true front h = (refl, record { fits = h.fits; spelled = append_cancel_right (ending kind) (46 ∷ front) (codes ".tmp") h.spelled })
+from_marked kind false front h = absurd (not_marked kind front (final_text kind (front ++ codes ".tmp") h).spelled)
 
 -- any other text is that of a final one
 pub from_unmarked : (kind : Kind) (temp : Bool) (text : List ℕ) → ((front : List ℕ) → text ≢ front ++ codes ".tmp") → IsEndingOf kind temp text → (temp ≡ false) × IsExtensionOf kind text
-from_unmarked kind true text none h = absurd (none (drop 1 (ending kind)) (ap (drop 1) (sym h.spelled ∙ ap (λ (l : List ℕ). l ++ codes ".tmp") (dotted kind))))
-from_unmarked kind false text none h = (refl, record { fits = h.fits; spelled = sym (append-nil (ending kind)) ∙ h.spelled })
+from_unmarked kind true text none h = absurd (none (drop 1 (ending kind)) (marked_text kind text h))
+from_unmarked kind false text none h = (refl, final_text kind text h)
+
+-- an ending tells the kind and whether the file is temporary
+pub same_ending : (a b : Kind) (s t : Bool) (text : List ℕ) → IsEndingOf a s text → IsEndingOf b t text → (a ≡ b) × (s ≡ t)
+same_ending a b true t text h k =
+    let front = drop 1 (ending a) in
+    let marked = from_marked b t front (subst (IsEndingOf b t) (marked_text a text h) k) in
+    (one_kind a b front (record { fits = h.fits; spelled = dotted a }) marked.1, sym marked.0)
+same_ending a b false false text h k = (one_kind a b text (final_text a text h) (final_text b text k), refl)
+same_ending a b false true text h k =
+    let marked = from_marked a false (drop 1 (ending b)) (subst (IsEndingOf a false) (marked_text b text k) h) in
+    absurd (false≢true marked.0)

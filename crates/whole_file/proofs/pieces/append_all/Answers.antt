@@ -1,0 +1,27 @@
+use Rattle.std.proofs.Common.{◌≡◌, ◌∙◌, ◌+◌, ◌-◌, ◌≤◌, ◌++◌, length, take, drop, arith}
+use Rattle.std.proofs.lemmas.Grind.{common_steps}
+use Rattle.site_model.specs.CountLaws.{cause_write, cause_on}
+use Rattle.whole_file.proofs.Appending.{first_some, first_done, next_some, next_done, slice_fits, slice_joins}
+use Rattle.whole_file.proofs.pieces.append_all.Goals as goal
+
+pub returns-in_err-append-clause-effect : goal.returns-in_err-append-clause-effect
+returns-in_err-append-clause-effect g c = λ told. first_some _ _ _ _ _ (grind (arith, common_steps)) (c.append.ensures.effect told)
+
+pub loop-at-init : goal.loop-at-init
+loop-at-init g c = record {
+  within = omega arith;
+  servers = c.append.ensures.servers;
+  cause = cause_write c.in_ok-append.ensures.counts;
+  effect = λ told. first_done _ _ _ c.min-at.result _ _ (grind (arith, common_steps)) (grind (arith, common_steps)) (c.append.ensures.effect told) (c.in_ok-append.ensures.done told);
+}
+
+pub returns-in_err-append-2-clause-effect : goal.returns-in_err-append-2-clause-effect
+returns-in_err-append-2-clause-effect g c = λ told. next_some _ _ _ c.loop-at.at _ _ _ (slice_fits _ c.loop-at.at (c.loop-at.at + c.min.result) (omega arith) (omega arith)) (c.loop-at.invariant.effect told) (c.append-in-loop-at.ensures.effect told)
+
+pub loop-at-preserved : goal.loop-at-preserved
+loop-at-preserved g c = record {
+  within = omega arith;
+  servers = c.append-in-loop-at.ensures.servers ∙ c.loop-at.invariant.servers;
+  cause = cause_on c.loop-at.invariant.cause (cause_write c.in_ok-append-2.ensures.counts);
+  effect = λ told. next_done _ _ _ c.loop-at.at _ _ _ _ (slice_fits _ c.loop-at.at (c.loop-at.at + c.min.result) (omega arith) (omega arith)) (slice_joins _ c.loop-at.at (c.loop-at.at + c.min.result) (omega arith)) (c.loop-at.invariant.effect told) (c.append-in-loop-at.ensures.effect told) (c.in_ok-append-2.ensures.done told);
+}

@@ -1,0 +1,48 @@
+ghost use Rattle.std.specs.Prelude.{◌≡◌, ◌<◌, ◌++◌, IsTrue, IsErr, OnOk};
+ghost use Rattle.site_model.specs.Disk.{grown, firm_file, bytes_of};
+ghost use Rattle.site_model.specs.Counts.{HasCause};
+ghost use Rattle.whole_file.specs.Whole.{AppendsAll, AppendsFirm};
+
+use crate::PIECE;
+use site_model::{Failed, Site};
+
+/// Appends all of the bytes, in pieces. An absent file is made.
+pub fn append_all<T: Site>(
+    site: &mut T,
+    server: u32,
+    name: &str,
+    bytes: &[u8],
+) -> Result<(), Failed>
+    requires { server < T.servers site.old }
+    ensures effect { IsTrue T.tells → AppendsAll (server, name.now) bytes.now (T.disk site.old) (T.disk site.new) }
+    ensures done { OnOk result (IsTrue T.tells → (T.disk site.new).files (server, name.now) ≡ Some (grown ((T.disk site.old).files (server, name.now)) bytes.now)) }
+    ensures cause { HasCause server (T.counts site.old) (T.counts site.new) (IsErr result) }
+    ensures servers { T.servers site.new ≡ T.servers site.old }
+{
+    let mut at = bytes.len().min(PIECE);
+    site.append(server, name, &bytes[..at])?;
+    while at < bytes.len() {
+        let end = at + (bytes.len() - at).min(PIECE);
+        site.append(server, name, &bytes[at..end])?;
+        at = end;
+    }
+    Ok(())
+}
+
+/// The same, and a stop afterwards leaves all of the file.
+pub fn append_firm<T: Site>(
+    site: &mut T,
+    server: u32,
+    name: &str,
+    bytes: &[u8],
+) -> Result<(), Failed>
+    requires { server < T.servers site.old }
+    ensures effect { IsTrue T.tells → AppendsFirm (server, name.now) bytes.now (T.disk site.old) (T.disk site.new) }
+    ensures done { OnOk result (IsTrue T.tells → (T.disk site.new).files (server, name.now) ≡ Some (firm_file (bytes_of ((T.disk site.old).files (server, name.now)) ++ bytes.now))) }
+    ensures cause { HasCause server (T.counts site.old) (T.counts site.new) (IsErr result) }
+    ensures servers { T.servers site.new ≡ T.servers site.old }
+{
+    append_all(site, server, name, bytes)?;
+    site.sync(server, name)?;
+    Ok(())
+}

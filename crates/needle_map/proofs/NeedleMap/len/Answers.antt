@@ -1,0 +1,8 @@
+use Rattle.std.proofs.Common.{arith}
+use Rattle.needle_map.proofs.Places.{len-by_id}
+use Rattle.needle_map.proofs.NeedleMap.len.Goals as goal
+
+pub returns : goal.returns
+returns c =
+    let length_is = len-by_id c.self.inside.entries.items c.self.invariant in
+    rw (← c.self.view_is, length_is) (omega (arith, c.len.ensures, c.self.inside.entries.ok.0))

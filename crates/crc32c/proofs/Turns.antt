@@ -67,6 +67,9 @@ turns-shifted (suc n) x = ap (turns n) (ap turned (doubled n x) ∙ turned-doubl
     doubled : (n x : ℕ) → x * 2 ^ suc n ≡ 2 * (x * 2 ^ n)
     doubled n x = grind (arith, pow-suc 2 n)
 
+pub turns-zero : (n : ℕ) → turns n 0 ≡ 0
+turns-zero n = let none : 0 * 2 ^ n ≡ 0 = omega arith in ap (turns n) (sym none) ∙ turns-shifted n 0
+
 pub turns-add : (m n s : ℕ) → turns (m + n) s ≡ turns n (turns m s)
 unfolding turns
 turns-add zero n s = let same : 0 + n ≡ n = omega arith in ap (λ k. turns k s) same

@@ -1,4 +1,5 @@
 use super::*;
+use register::after_each;
 
 #[test]
 fn known_checksums(rt: HostRuntime) {
@@ -11,4 +12,16 @@ fn known_checksums(rt: HostRuntime) {
 #[test]
 fn a_checksum_is_masked(rt: HostRuntime) {
     assert_eq!(rt; masked(0xe306_9283), 0xc78a_b0e5);
+}
+
+#[test]
+fn by_sixteens_as_one_by_one(rt: HostRuntime) {
+    let mut bytes = [0; 80];
+    for (i, byte) in bytes.iter_mut().enumerate() {
+        *byte = (i * 89 % 251) as u8;
+    }
+    for len in 0..=80 {
+        let front = &bytes[..len];
+        assert_eq!(rt; crc(front), !after_each(START, front), "at {len}");
+    }
 }

@@ -2,7 +2,7 @@ use Rattle.std.proofs.Common.{◌/◌, get_or, ap, ◌∙◌, arith}
 use Rattle.std.specs.Prelude.{bit_and, bit_xor}
 use Rattle.crc32c.specs.declared.tables.TheConstants.{TABLE_0}
 use Rattle.crc32c.proofs.Entries.{stepped}
-use Rattle.crc32c.proofs.after_byte.Goals as goal
+use Rattle.crc32c.proofs.register.after_byte.Goals as goal
 
 pub returns : goal.returns
 returns c =

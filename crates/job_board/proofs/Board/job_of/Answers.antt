@@ -1,0 +1,14 @@
+use Rattle.std.proofs.Common.{refl}
+use Rattle.job_board.specs.Jobs.{has_volume}
+use Rattle.job_board.proofs.Places.{found_nowhere, found_there}
+use Rattle.job_board.proofs.Board.job_of.Goals as goal
+
+pub returns-in_err-at-clause-number : goal.returns-in_err-at-clause-number
+returns-in_err-at-clause-number g c =
+    let nowhere = rw c.deref.ensures.value at c.in_err-at.ensures in
+    rw (← c.self.view_is, found_nowhere (has_volume c.args.volume) c.self.inside.jobs.items nowhere) c.from_residual.ensures
+
+pub returns-clause-number : goal.returns-clause-number
+returns-clause-number g c =
+    let there = rw c.deref.ensures.value at c.in_ok-at.ensures in
+    rw (← c.self.view_is, found_there (has_volume c.args.volume) c.self.inside.jobs.items c.in_ok-at.at c.index.result.now there c.index.ensures) refl

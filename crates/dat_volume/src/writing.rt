@@ -1,0 +1,54 @@
+// The writes to a volume's two files, in their order.
+ghost use Rattle.std.specs.Prelude.{◌≡◌, ◌<◌, IsErr};
+ghost use Rattle.site_model.specs.Counts.{HasCause};
+ghost use Rattle.dat_volume.specs.NewFiles.{AreApart};
+
+use site_model::{Failed, Site};
+use whole_file::append_firm;
+
+/// The two files of a volume under their final names, and as they are made.
+#[derive(Drop)]
+pub(crate) struct NewNames {
+    pub dat: String,
+    pub idx: String,
+    pub dat_temp: String,
+    pub idx_temp: String,
+}
+
+/// Makes the data file with these bytes and an empty index. The data file has its name first, so that no index
+/// stands without it.
+pub(crate) fn make_files<T: Site>(
+    site: &mut T,
+    server: u32,
+    names: &NewNames,
+    super_block: &[u8],
+) -> Result<(), Failed>
+    requires server { server < T.servers site.old }
+    requires apart { AreApart names.now }
+    ensures cause { HasCause server (T.counts site.old) (T.counts site.new) (IsErr result) }
+    ensures servers { T.servers site.new ≡ T.servers site.old }
+{
+    append_firm(site, server, &names.dat_temp, super_block)?;
+    append_firm(site, server, &names.idx_temp, &[])?;
+    site.rename(server, &names.dat_temp, &names.dat)?;
+    site.rename(server, &names.idx_temp, &names.idx)?;
+    Ok(())
+}
+
+/// Appends the record to the data file, and then its entry to the index. Each is firm before the next write.
+pub(crate) fn append_record<T: Site>(
+    site: &mut T,
+    server: u32,
+    dat: &str,
+    idx: &str,
+    record: &[u8],
+    entry: &[u8],
+) -> Result<(), Failed>
+    requires { server < T.servers site.old }
+    ensures cause { HasCause server (T.counts site.old) (T.counts site.new) (IsErr result) }
+    ensures servers { T.servers site.new ≡ T.servers site.old }
+{
+    append_firm(site, server, dat, record)?;
+    append_firm(site, server, idx, entry)?;
+    Ok(())
+}

@@ -1,3 +1,6 @@
+ghost use Rattle.std.specs.Prelude.{◌<◌, IfOk, length};
+ghost use Rattle.script_text.specs.Fitting.{HasFittingContent};
+
 use crate::values::{cookie, data, number};
 use std::alloc::Global;
 use world_model::types::{Content, Line};
@@ -27,7 +30,9 @@ pub fn is_blank(line: &[u8]) -> bool {
 
 /// Reads `put 1 ID COOKIE DATA` or `get 1 ID COOKIE`, in words between spaces.
 /// Every other line, and one of more than 2^23 bytes, is `Syntax`.
-pub fn parse_line(alloc: Global, line: &[u8]) -> Result<Line, LineFault> {
+pub fn parse_line(alloc: Global, line: &[u8]) -> Result<Line, LineFault>
+    ensures { IfOk result HasFittingContent }
+{
     if line.len() > MAX_LINE {
         return Err(LineFault::Syntax);
     }
@@ -39,7 +44,9 @@ pub fn parse_line(alloc: Global, line: &[u8]) -> Result<Line, LineFault> {
     }
 }
 
-fn put(alloc: Global, words: &mut Words<'_>) -> Result<Line, LineFault> {
+fn put(alloc: Global, words: &mut Words<'_>) -> Result<Line, LineFault>
+    ensures { IfOk result HasFittingContent }
+{
     let volume = volume(words.word()?)?;
     let id = number(words.word()?)?;
     let cookie = cookie(words.word()?)?;
@@ -66,7 +73,9 @@ fn put(alloc: Global, words: &mut Words<'_>) -> Result<Line, LineFault> {
     })
 }
 
-fn get(words: &mut Words<'_>) -> Result<Line, LineFault> {
+fn get(words: &mut Words<'_>) -> Result<Line, LineFault>
+    ensures { IfOk result HasFittingContent }
+{
     let volume = volume(words.word()?)?;
     let id = number(words.word()?)?;
     let cookie = cookie(words.word()?)?;

@@ -1,4 +1,6 @@
-// The words of a line, and the values that they spell.
+// The values that words spell.
+ghost use Rattle.std.specs.Prelude.{◌<◌, IfOk, length};
+
 use crate::lines::LineFault;
 use std::alloc::Global;
 use world_model::bytes::Bytes;
@@ -26,11 +28,11 @@ pub(crate) fn cookie(word: &[u8]) -> Result<u32, LineFault> {
 }
 
 // An even number of hexadecimal digits, and at least two.
-pub(crate) fn data(alloc: Global, word: &[u8]) -> Result<Bytes, LineFault> {
-    if word.is_empty() {
-        return Err(LineFault::Syntax);
-    }
+pub(crate) fn data(alloc: Global, word: &[u8]) -> Result<Bytes, LineFault>
+    ensures { IfOk result (λ bytes. 0 < length bytes) }
+{
     match hex::decode(alloc, word) {
+        Ok(bytes) if bytes.is_empty() => Err(LineFault::Syntax),
         Ok(bytes) => Ok(Bytes::new(bytes)),
         Err(hex::FromHexError::OutOfMemory) => Err(LineFault::Memory),
         Err(_) => Err(LineFault::Syntax),

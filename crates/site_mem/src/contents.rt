@@ -15,7 +15,7 @@ pub struct Contents {
 }
 
 impl Contents {
-    ghost use Rattle.std.specs.Prelude.{◌≡◌, MatchOption, IfSome, OnOk, OnErr, Some, None, []};
+    ghost use Rattle.std.specs.Prelude.{◌≡◌, if◌then◌else◌, MatchOption, IfSome, OnOk, OnErr, Some, None, []};
     ghost use Rattle.site_model.specs.Disk.{grown, synced, cut_to, firm_file};
     ghost use Rattle.site_mem.specs.Events.{event_now, files_after, said_after, put_file};
     ghost use Rattle.site_mem.specs.Kept.{files_of, file_of, place_of, IsAt, MakesRoom, found};
@@ -195,5 +195,23 @@ impl Contents {
             Asked::Tell { bytes } => self.said.extend_from_slice(bytes),
             Asked::Say { bytes } => self.said.extend_from_slice(bytes),
         }
+    }
+
+    /// Carries out what is asked, or does nothing.
+    pub fn try_out(
+        &mut self,
+        alloc: Global,
+        request: &Request<'_>,
+        is_done: bool,
+    ) -> Result<(), AllocError>
+        ensures files { OnOk result (files_of self.new.files.items ≡ (if is_done then files_after (event_now request.now) (files_of self.old.files.items) else files_of self.old.files.items)) }
+        ensures said { OnOk result (self.new.said.items ≡ (if is_done then said_after (event_now request.now) self.old.said.items else self.old.said.items)) }
+        ensures err_files { OnErr result (files_of self.new.files.items ≡ files_of self.old.files.items) }
+        ensures err_said { OnErr result (self.new.said.items ≡ self.old.said.items) }
+    {
+        if !is_done {
+            return Ok(());
+        }
+        self.carry_out(alloc, request)
     }
 }

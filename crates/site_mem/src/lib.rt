@@ -3,4 +3,7 @@
 
 mod asked;
 mod contents;
+mod entry;
+mod history;
+mod losses;
 mod stored;

@@ -1,3 +1,6 @@
 pub mod Places
 pub mod Keeping
 pub mod Recording
+pub mod Fills
+pub mod Effecting
+pub mod Calling

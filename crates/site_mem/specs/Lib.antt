@@ -3,3 +3,7 @@ pub mod Kept
 pub mod Lost
 pub mod Record
 pub mod Entered
+pub mod Counting
+pub mod Failing
+pub mod Effects
+pub mod Calls

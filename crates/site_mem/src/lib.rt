@@ -5,5 +5,7 @@ mod asked;
 mod contents;
 mod entry;
 mod history;
+mod listed;
 mod losses;
 mod stored;
+mod tally;

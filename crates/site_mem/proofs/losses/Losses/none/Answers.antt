@@ -1,11 +1,5 @@
-use Rattle.std.proofs.Common.{◌≡◌, ℕ, zero, suc, get_or, refl}
-use lib.ListN.{replicate}
+use Rattle.site_mem.proofs.Fills.{filled}
 use Rattle.site_mem.proofs.losses.Losses.none.Goals as goal
 
-zeros : (n i : ℕ) → ◌≡◌ {A = ℕ} (get_or (replicate n 0) i 0) 0
-zeros zero i = refl
-zeros (suc n) zero = refl
-zeros (suc n) (suc i) = zeros n i
-
 pub returns : goal.returns
-returns c = zeros 64
+returns c server = filled 64 server 0

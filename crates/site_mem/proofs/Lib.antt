@@ -4,3 +4,4 @@ pub mod Recording
 pub mod Fills
 pub mod Effecting
 pub mod Calling
+pub mod Making

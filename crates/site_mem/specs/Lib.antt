@@ -7,3 +7,4 @@ pub mod Counting
 pub mod Failing
 pub mod Effects
 pub mod Calls
+pub mod Site

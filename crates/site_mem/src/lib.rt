@@ -7,5 +7,6 @@ mod entry;
 mod history;
 mod listed;
 mod losses;
+mod mem;
 mod stored;
 mod tally;

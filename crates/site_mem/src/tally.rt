@@ -31,7 +31,8 @@ impl Tally {
 
     /// The number of the next call.
     pub fn next(&self) -> u64
-        ensures { result ≡ next_call self.now }
+        ensures number { result ≡ next_call self.now }
+        ensures later { self.now.calls ≤ result }
     {
         self.calls.saturating_add(1)
     }

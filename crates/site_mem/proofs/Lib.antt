@@ -5,3 +5,4 @@ pub mod Fills
 pub mod Effecting
 pub mod Calling
 pub mod Making
+pub mod Naming

@@ -1,5 +1,5 @@
 -- The files that are kept, as a function of places.
-use Rattle.std.specs.Prelude.{◌≡◌, ◌≢◌, ◌⊎◌, ℕ, ◌<◌, ◌&&◌, Bool, true, not, if◌then◌else◌, is_some, string_bytes, List, [], ◌∷◌, length, slice_index_or, Option, Some, None}
+use Rattle.std.specs.Prelude.{◌≡◌, ◌≢◌, ◌⊎◌, ℕ, ◌==◌, ◌<◌, ◌&&◌, Bool, true, not, if◌then◌else◌, is_some, string_bytes, List, [], ◌∷◌, length, slice_index_or, Option, Some, None}
 use Rattle.std.specs.Borrow.{Bor}
 use Rattle.site_model.specs.Disk.{File, Place, Files}
 use Rattle.site_mem.specs.declared.stored.Stored.{Stored}
@@ -31,8 +31,18 @@ abbrev pub found : Option (Bor Stored) → Option File
 found None = None
 found (Some file) = Some (file_of file.now)
 
+-- the bytes that are answered
+abbrev pub seen : Option (Bor (List ℕ)) → Option (List ℕ)
+seen None = None
+seen (Some bytes) = Some bytes.now
+
 -- nothing stands at q but the file that stands at p, if they are the same
 pub record MakesRoom (p q : Place) (old new : Files) : Type 0 where
   pub free : (q ≡ p) ⊎ (new q ≡ None)
   pub here : new p ≡ old p
   pub others : (k : Place) → k ≢ q → new k ≡ old k
+
+-- the names of the files at a server
+abbrev pub names_at : ℕ → List Stored → List (List ℕ)
+names_at server [] = []
+names_at server (s ∷ kept) = if s.server == server then string_bytes s.name ∷ names_at server kept else names_at server kept

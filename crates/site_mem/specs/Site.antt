@@ -1,12 +1,12 @@
 -- What a site in memory shows, and what each of its calls leaves of that.
-use Rattle.std.specs.Prelude.{◌≡◌, ℕ, ◌+◌, ◌-◌, ◌^◌, ◌<◌, ◌≤◌, ◌⊎◌, ◌&&◌, ◌||◌, not, min, Bool, true, IsTrue, if◌then◌else◌, Option, None, slice_index_or}
+use Rattle.std.specs.Prelude.{◌≡◌, ℕ, ◌+◌, ◌-◌, ◌^◌, ◌<◌, ◌≤◌, ◌⊎◌, ◌&&◌, ◌||◌, not, min, Bool, true, false, IsTrue, if◌then◌else◌, Option, None, slice_index_or}
 use Rattle.site_model.specs.Disk.{Disk, Call}
 use Rattle.site_model.specs.Counts.{Counts}
 use Rattle.site_mem.specs.declared.mem.MemSite.{MemSite}
 use Rattle.site_mem.specs.Events.{Event}
 use Rattle.site_mem.specs.Record.{nothing, disk_of}
 use Rattle.site_mem.specs.Calls.{Underway, at_call, call_of, Begins}
-use Rattle.site_mem.specs.Counting.{counts_of, next_call}
+use Rattle.site_mem.specs.Counting.{counts_of, next_call, AreNone}
 use Rattle.site_mem.specs.Failing.{lists, lists_read}
 
 -- the files, what was said, and the calls so far
@@ -72,3 +72,24 @@ pub record Looks (is_listed : Bool) (old new : MemSite) (is_failed : Type 0) : T
 -- whether the next call fails, if it is a read at this server
 abbrev pub read_fails_next : MemSite → ℕ → Bool
 read_fails_next m server = fails_at m (next_at m) || lists_read (reads_fail_at m server) (next_at m)
+
+-- all but the files and what was said
+pub record KeepsCounts (old new : MemSite) : Type 0 where
+  pub servers : new.servers ≡ old.servers
+  pub counts : counts_at new ≡ counts_at old
+  pub wants : wants_at new ≡ wants_at old
+
+-- all but what is listed
+pub record KeepsAll (old new : MemSite) : Type 0 where
+  pub disk : disk_at new ≡ disk_at old
+  pub counts : KeepsCounts old new
+  pub calls : (number : ℕ) → call_at new number ≡ call_at old number
+
+-- no file, nothing said, no call made and none listed
+pub record IsFresh (servers : ℕ) (m : MemSite) : Type 0 where
+  pub servers_are : m.servers ≡ servers
+  pub disk : disk_at m ≡ nothing
+  pub counts : AreNone (counts_at m)
+  pub wants : wants_at m ≡ 0
+  pub fails : (number : ℕ) → fails_at m number ≡ false
+  pub reads_fail : (server : ℕ) → reads_fail_at m server ≡ None

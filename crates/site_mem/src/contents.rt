@@ -15,10 +15,10 @@ pub struct Contents {
 }
 
 impl Contents {
-    ghost use Rattle.std.specs.Prelude.{◌≡◌, if◌then◌else◌, MatchOption, IfSome, OnOk, OnErr, Some, None, []};
+    ghost use Rattle.std.specs.Prelude.{◌≡◌, if◌then◌else◌, map, string_bytes, MatchOption, IfOk, OnOk, OnErr, Some, None, []};
     ghost use Rattle.site_model.specs.Disk.{grown, synced, cut_to, firm_file};
     ghost use Rattle.site_mem.specs.Events.{event_now, files_after, said_after, put_file};
-    ghost use Rattle.site_mem.specs.Kept.{files_of, file_of, place_of, IsAt, MakesRoom, found};
+    ghost use Rattle.site_mem.specs.Kept.{files_of, file_of, place_of, IsAt, MakesRoom, found, names_at};
 
     pub fn new(alloc: Global) -> Self
         ensures files { result.files.items ≡ [] }
@@ -213,5 +213,16 @@ impl Contents {
             return Ok(());
         }
         self.carry_out(alloc, request)
+    }
+
+    /// The names of the files at a server.
+    pub fn names(&self, alloc: Global, server: u32) -> Result<Vec<String>, AllocError>
+        ensures { IfOk result (λ names. map string_bytes names.items ≡ names_at server self.now.files.items) }
+    {
+        let mut names = Vec::new(alloc);
+        for file in &self.files {
+            file.add_name(alloc, server, &mut names)?;
+        }
+        Ok(names)
     }
 }

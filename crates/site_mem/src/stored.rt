@@ -1,7 +1,7 @@
 // One file.
 ghost use Rattle.std.specs.Prelude.{◌≤◌, length};
 
-use std::alloc::AllocError;
+use std::alloc::{AllocError, Global};
 
 /// A file at a server, of which the first bytes are firm.
 #[derive(Drop)]
@@ -17,10 +17,10 @@ pub struct Stored {
 }
 
 impl Stored {
-    ghost use Rattle.std.specs.Prelude.{◌≡◌, Some, OnOk, OnErr, string_bytes};
+    ghost use Rattle.std.specs.Prelude.{◌≡◌, ◌++◌, ◌∷◌, [], map, Some, OnOk, OnErr, string_bytes};
     ghost use Rattle.site_model.specs.Disk.{grown, synced, cut_to};
     ghost use Rattle.site_mem.specs.Events.{is_place};
-    ghost use Rattle.site_mem.specs.Kept.{file_of, place_of};
+    ghost use Rattle.site_mem.specs.Kept.{file_of, place_of, names_at};
 
     /// Whether it is the file of this name at this server.
     pub fn is_at(&self, server: u32, name: &str) -> bool
@@ -64,5 +64,20 @@ impl Stored {
         ensures file { file_of self.new ≡ file_of self.old }
     {
         self.name = name;
+    }
+
+    /// Adds its name, if it is at this server.
+    pub fn add_name(
+        &self,
+        alloc: Global,
+        server: u32,
+        names: &mut Vec<String>,
+    ) -> Result<(), AllocError>
+        ensures { OnOk result (map string_bytes names.new.items ≡ map string_bytes names.old.items ++ names_at server (self.now ∷ [])) }
+    {
+        if self.server == server {
+            names.push(self.name.as_str().to_string(alloc)?)?;
+        }
+        Ok(())
     }
 }

@@ -6,3 +6,4 @@ pub mod Effecting
 pub mod Calling
 pub mod Making
 pub mod Naming
+pub mod Seeing

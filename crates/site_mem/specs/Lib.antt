@@ -8,3 +8,5 @@ pub mod Failing
 pub mod Effects
 pub mod Calls
 pub mod Site
+pub mod Fits
+pub mod Source

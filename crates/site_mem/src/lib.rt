@@ -2,11 +2,17 @@
 #![tactic(auto)]
 
 mod asked;
+mod clock;
 mod contents;
 mod entry;
 mod history;
 mod listed;
 mod losses;
 mod mem;
+mod source;
 mod stored;
 mod tally;
+
+pub use clock::FixedClock;
+pub use mem::MemSite;
+pub use source::MemSource;

@@ -28,12 +28,13 @@ pub struct MemSite {
 }
 
 impl MemSite {
-    ghost use Rattle.std.specs.Prelude.{◌≡◌, ◌<◌, IsTrue, IsErr, OnOk, is_err};
+    ghost use Rattle.std.specs.Prelude.{◌≡◌, ◌<◌, ◌≤◌, ◌+◌, IsTrue, IsErr, OnOk, is_err, length, take, drop};
     ghost use Rattle.site_mem.specs.Events.{event_now};
     ghost use Rattle.site_mem.specs.Effects.{Effect, IsDone};
     ghost use Rattle.site_mem.specs.Counting.{CountsEvent, IsCall, IsWithin};
     ghost use Rattle.site_mem.specs.Site.{disk_at, counts_at, next_at, fails_at, Makes, Looks};
     ghost use Rattle.site_model.specs.Counts.{CountsRead};
+    ghost use Rattle.site_model.specs.Disk.{size_of, bytes_of};
 
     // One call more that can change something.
     fn make(&mut self, request: Request<'_>) -> Result<(), Failed>
@@ -63,6 +64,27 @@ impl MemSite {
         ensures looked { Looks failed self.old self.new (IsTrue failed) }
     {
         self.tally.count_read(server, width, failed);
+    }
+
+    // How many bytes a file has, if it stands.
+    fn length(&self, server: u32, name: &str) -> Option<u64>
+        ensures { result ≡ size_of ((disk_at self.now).files (server, name.now)) }
+    {
+        match self.file(server, name) {
+            Some(bytes) => Some(bytes.len() as u64),
+            None => None,
+        }
+    }
+
+    // Fills `out` from a file.
+    fn fill(&self, server: u32, name: &str, at: u64, out: &mut [u8])
+        requires { at + length out.old ≤ length (bytes_of ((disk_at self.now).files (server, name.now))) }
+        ensures { out.new ≡ take (length out.old) (drop at (bytes_of ((disk_at self.now).files (server, name.now)))) }
+    {
+        if let Some(bytes) = self.file(server, name) {
+            let rest = &bytes[at as usize..];
+            out.copy_from_slice(&rest[..out.len()]);
+        }
     }
 
     // Whether the next call is listed.
@@ -219,10 +241,7 @@ impl Site for MemSite {
         if is_listed {
             return Err(Failed);
         }
-        Ok(match self.file(server, name) {
-            Some(bytes) => Some(bytes.len() as u64),
-            None => None,
-        })
+        Ok(self.length(server, name))
     }
 
     fn read(&mut self, server: u32, name: &str, at: u64, out: &mut [u8]) -> Result<(), Failed>
@@ -239,10 +258,7 @@ impl Site for MemSite {
         if is_listed {
             return Err(Failed);
         }
-        if let Some(bytes) = self.file(server, name) {
-            let from = at as usize;
-            out.copy_from_slice(&bytes[from..from + out.len()]);
-        }
+        self.fill(server, name, at, out);
         Ok(())
     }
 

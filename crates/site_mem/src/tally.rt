@@ -1,8 +1,6 @@
 // How often devices failed, and how much was asked of them.
-ghost use Rattle.std.specs.Prelude.{◌≡◌, ◌<◌, ◌≤◌, ◌+◌, ◌-◌, ◌^◌, min, IsTrue, [], length};
-ghost use Rattle.site_model.specs.Counts.{AreCounts, CountsRead, CountsWrite, CountsSay};
-ghost use Rattle.site_mem.specs.Events.{event_now};
-ghost use Rattle.site_mem.specs.Counting.{counts_of, next_call, AreNone, CountsEvent, IsCall, IsWithin};
+ghost use Rattle.std.specs.Prelude.{◌≤◌, ◌-◌, ◌^◌};
+ghost use Rattle.site_mem.specs.Fits.{AllFit};
 
 use crate::asked::{Asked, Request};
 
@@ -14,9 +12,18 @@ pub struct Tally {
     pub say_faults: u64,
     pub calls: u64,
     pub widest: u64,
+    ghost faults_fit: { AllFit faults },
+    ghost write_faults_fit: { AllFit write_faults },
+    ghost say_faults_fit: { say_faults ≤ 2 ^ 64 - 1 },
+    ghost calls_fit: { calls ≤ 2 ^ 64 - 1 },
 }
 
 impl Tally {
+    ghost use Rattle.std.specs.Prelude.{◌≡◌, ◌<◌, ◌≤◌, ◌+◌, ◌-◌, ◌^◌, min, IsTrue, [], length};
+    ghost use Rattle.site_model.specs.Counts.{CountsRead, CountsWrite, CountsSay};
+    ghost use Rattle.site_mem.specs.Events.{event_now};
+    ghost use Rattle.site_mem.specs.Counting.{counts_of, next_call, AreNone, CountsEvent, IsCall, IsWithin};
+
     pub fn new() -> Self
         ensures { AreNone (counts_of result) }
     {

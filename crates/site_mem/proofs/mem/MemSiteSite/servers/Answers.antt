@@ -1,0 +1,19 @@
+use Rattle.std.proofs.Common.{subst}
+use Rattle.site_model.specs.Disk.{HasFirmFront}
+use Rattle.site_mem.proofs.Calling.{front_of}
+use Rattle.site_mem.proofs.Seeing.{no_file}
+use Rattle.site_mem.proofs.mem.MemSiteSite.servers.Goals as goal
+
+pub returns-clause-possible : goal.returns-clause-possible
+returns-clause-possible c = λ told. record {
+  nowhere_else = λ k far. no_file _ (c.args.self.now.nowhere_else k far);
+  firm_front = λ k. subst (λ f. HasFirmFront f) (c.args.self.now.history.files k) (front_of c.args.self.now.history.contents.files.items k);
+}
+
+pub returns-clause-counts : goal.returns-clause-counts
+returns-clause-counts c = record {
+  faults = c.args.self.now.tally.faults_fit;
+  write_faults = c.args.self.now.tally.write_faults_fit;
+  say_faults = c.args.self.now.tally.say_faults_fit;
+  calls = c.args.self.now.tally.calls_fit;
+}

@@ -1,0 +1,48 @@
+-- The counts of a site in memory.
+use Rattle.std.specs.Prelude.{◌≡◌, ℕ, ◌+◌, ◌-◌, ◌^◌, ◌<◌, min, List, length, slice_index, Option, Some, None}
+use Rattle.site_model.specs.Counts.{Counts, CountsRead, CountsWrite, CountsSay}
+use Rattle.site_model.specs.Disk.{Place, Call, appends, syncs, cuts, renames, removes, says}
+use Rattle.site_mem.specs.declared.tally.Tally.{Tally}
+use Rattle.site_mem.specs.Events.{Event, added, told, called}
+
+abbrev pub counts_of : Tally → Counts
+counts_of t = record { faults = λ s. slice_index t.faults s; write_faults = λ s. slice_index t.write_faults s; say_faults = t.say_faults; calls = t.calls; widest = t.widest }
+
+-- the number of the next call, which ends at its type's last value
+abbrev pub next_call : Tally → ℕ
+next_call t = min (t.calls + 1) (2 ^ 64 - 1)
+
+-- it names servers below this number alone
+abbrev pub IsWithin : ℕ → Event → Type 0
+IsWithin servers (added p bytes) = p.0 < servers
+IsWithin servers (told bytes) = Unit {0}
+IsWithin servers (called (appends p bytes)) = p.0 < servers
+IsWithin servers (called (syncs p)) = p.0 < servers
+IsWithin servers (called (cuts p n)) = p.0 < servers
+IsWithin servers (called (renames p q)) = (p.0 < servers) × (q.0 < servers)
+IsWithin servers (called (removes p)) = p.0 < servers
+IsWithin servers (called (says bytes)) = Unit {0}
+
+abbrev pub IsCall : Event → Type 0
+IsCall (added p bytes) = ⊥
+IsCall (told bytes) = ⊥
+IsCall (called call) = Unit {0}
+
+-- what it counts
+abbrev pub CountsEvent : Event → Counts → Counts → Type 0 → Type 0
+CountsEvent (added p bytes) old new is_failed = Unit {0}
+CountsEvent (told bytes) old new is_failed = Unit {0}
+CountsEvent (called (appends p bytes)) old new is_failed = CountsWrite p.0 (length bytes) old new is_failed
+CountsEvent (called (syncs p)) old new is_failed = CountsWrite p.0 0 old new is_failed
+CountsEvent (called (cuts p n)) old new is_failed = CountsWrite p.0 0 old new is_failed
+CountsEvent (called (renames p q)) old new is_failed = CountsWrite p.0 0 old new is_failed
+CountsEvent (called (removes p)) old new is_failed = CountsWrite p.0 0 old new is_failed
+CountsEvent (called (says bytes)) old new is_failed = CountsSay old new is_failed
+
+-- nothing was counted
+pub record AreNone (c : Counts) : Type 0 where
+  pub faults : (s : ℕ) → c.faults s ≡ 0
+  pub write_faults : (s : ℕ) → c.write_faults s ≡ 0
+  pub say_faults : c.say_faults ≡ 0
+  pub calls : c.calls ≡ 0
+  pub widest : c.widest ≡ 0

@@ -1,0 +1,12 @@
+pub mod Events
+pub mod Kept
+pub mod Lost
+pub mod Record
+pub mod Entered
+pub mod Counting
+pub mod Failing
+pub mod Effects
+pub mod Calls
+pub mod Site
+pub mod Fits
+pub mod Source

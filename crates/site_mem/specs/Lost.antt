@@ -1,0 +1,17 @@
+-- The servers that lost their files, from the numbers of the calls that found them lost.
+use Rattle.std.specs.Prelude.{ℕ, Bool, ◌&&◌, nat_lt, nat_le, if◌then◌else◌, List, slice_index, Option, Some, None}
+use Rattle.site_model.specs.Disk.{Files, Disk}
+
+abbrev pub has_lost : List ℕ → ℕ → Bool
+has_lost since server = nat_lt 0 (slice_index since server)
+
+-- the call with this number found them lost
+abbrev pub had_lost : List ℕ → ℕ → ℕ → Bool
+had_lost since number server = nat_lt 0 (slice_index since server) && nat_le (slice_index since server) number
+
+-- what is left of the files when these servers lose theirs
+abbrev pub files_without : (ℕ → Bool) → Files → Files
+files_without lost files = λ k. if lost k.0 then None else files k
+
+abbrev pub without : (ℕ → Bool) → Disk → Disk
+without lost d = record { files = files_without lost d.files; said = d.said; past = d.past }

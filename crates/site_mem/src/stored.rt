@@ -1,0 +1,83 @@
+// One file.
+ghost use Rattle.std.specs.Prelude.{◌≤◌, length};
+
+use std::alloc::{AllocError, Global};
+
+/// A file at a server, of which the first bytes are firm.
+#[derive(Drop)]
+pub struct Stored {
+    pub server: u32,
+    pub name: String,
+    pub bytes: Vec<u8>,
+    /// How many bytes a stop leaves for sure.
+    pub firm: usize,
+    /// Whether a stop leaves the file for sure.
+    pub is_named: bool,
+    ghost front: { firm ≤ length bytes.items },
+}
+
+impl Stored {
+    ghost use Rattle.std.specs.Prelude.{◌≡◌, ◌++◌, ◌∷◌, [], map, Some, OnOk, OnErr, string_bytes};
+    ghost use Rattle.site_model.specs.Disk.{grown, synced, cut_to};
+    ghost use Rattle.site_mem.specs.Events.{is_place};
+    ghost use Rattle.site_mem.specs.Kept.{file_of, place_of, names_at};
+
+    /// Whether it is the file of this name at this server.
+    pub fn is_at(&self, server: u32, name: &str) -> bool
+        ensures { result ≡ is_place (place_of self.now) (server, name.now) }
+    {
+        self.server == server && self.name.as_str() == name
+    }
+
+    /// Puts bytes behind its own.
+    pub fn grow(&mut self, bytes: &[u8]) -> Result<(), AllocError>
+        ensures place { place_of self.new ≡ place_of self.old }
+        ensures ok { OnOk result (file_of self.new ≡ grown (Some (file_of self.old)) bytes.now) }
+        ensures err { OnErr result (file_of self.new ≡ file_of self.old) }
+    {
+        self.bytes.extend_from_slice(bytes)?;
+        Ok(())
+    }
+
+    /// Makes it firm.
+    pub fn sync(&mut self)
+        ensures place { place_of self.new ≡ place_of self.old }
+        ensures file { Some (file_of self.new) ≡ synced (Some (file_of self.old)) }
+    {
+        self.firm = self.bytes.len();
+        self.is_named = true;
+    }
+
+    /// Ends it at this length, or leaves it where it ends before.
+    pub fn cut(&mut self, length: u64)
+        ensures place { place_of self.new ≡ place_of self.old }
+        ensures file { Some (file_of self.new) ≡ cut_to length (Some (file_of self.old)) }
+    {
+        let length = length as usize;
+        self.bytes.truncate(length);
+        self.firm = self.firm.min(length);
+    }
+
+    /// Gives it another name.
+    pub fn set_name(&mut self, name: String)
+        ensures place { place_of self.new ≡ (self.old.server, string_bytes name) }
+        ensures file { file_of self.new ≡ file_of self.old }
+    {
+        self.name = name;
+    }
+
+    /// Adds its name, if it is at this server.
+    pub fn add_name(
+        &self,
+        alloc: Global,
+        server: u32,
+        names: &mut Vec<String>,
+    ) -> Result<(), AllocError>
+        ensures { OnOk result (map string_bytes names.new.items ≡ map string_bytes names.old.items ++ names_at server (self.now ∷ [])) }
+    {
+        if self.server == server {
+            names.push(self.name.as_str().to_string(alloc)?)?;
+        }
+        Ok(())
+    }
+}

@@ -1,7 +1,7 @@
 -- The rule of the tables, and look-ups in them.
 use Rattle.std.proofs.Common.{◌≡◌, ℕ, zero, suc, ◌+◌, ◌/◌, ◌%◌, ◌^◌, ◌<◌, List, [], ◌∷◌, get_or, map, refl, sym, ◌∙◌, ap, arith}
 use Rattle.std.specs.Prelude.{bit_and, bit_xor}
-use Rattle.std.specs.Int.Bits.{and_mask, xor_assoc, xor_shr, xor_zero_r}
+use Rattle.std.specs.Int.Bits.{and_mask, xor_assoc, xor_comm, xor_shr, xor_zero_r}
 use Rattle.crc32c.specs.Register.{turned, turns}
 use Rattle.crc32c.specs.declared.tables.TheConstants.{TABLE_0, TABLE_1, TABLE_2, TABLE_3, TABLE_4, TABLE_5, TABLE_6, TABLE_7, TABLE_8, TABLE_9, TABLE_10, TABLE_11, TABLE_12, TABLE_13, TABLE_14, TABLE_15}
 use Rattle.crc32c.proofs.Turns.{turns-add, turns-low, turns-xor, turns-zero}
@@ -124,8 +124,7 @@ taken_next : (sum n m x y : ℕ) (table : List ℕ) → n ≡ 8 + m → y ≡ x 
 taken_next sum n m x y table bits rest rule =
     ap (bit_xor sum) (taken n m x y table bits rest rule) ∙ sym (xor_assoc sum (get_or table (bit_and x 255) 0) (turns m y))
 
--- the eight bytes of a word, each in its table
-pub eight_looked_up : (n x : ℕ) (t0 t1 t2 t3 t4 t5 t6 t7 : List ℕ) → x < 2 ^ 64
+from_lowest : (n x : ℕ) (t0 t1 t2 t3 t4 t5 t6 t7 : List ℕ) → x < 2 ^ 64
     → IsTable (8 + n) t0 → IsTable (16 + n) t1 → IsTable (24 + n) t2 → IsTable (32 + n) t3
     → IsTable (40 + n) t4 → IsTable (48 + n) t5 → IsTable (56 + n) t6 → IsTable (64 + n) t7
     → bit_xor (bit_xor (bit_xor (bit_xor (bit_xor (bit_xor (bit_xor
@@ -137,7 +136,7 @@ pub eight_looked_up : (n x : ℕ) (t0 t1 t2 t3 t4 t5 t6 t7 : List ℕ) → x < 2
     (get_or t2 (bit_and (x / 1099511627776) 255) 0))
     (get_or t1 (bit_and (x / 281474976710656) 255) 0))
     (get_or t0 (bit_and (x / 72057594037927936) 255) 0) ≡ turns (64 + n) x
-eight_looked_up n x t0 t1 t2 t3 t4 t5 t6 t7 h r0 r1 r2 r3 r4 r5 r6 r7 =
+from_lowest n x t0 t1 t2 t3 t4 t5 t6 t7 h r0 r1 r2 r3 r4 r5 r6 r7 =
     let a7 : ℕ = get_or t7 (bit_and x 255) 0 in
     let a6 : ℕ = bit_xor a7 (get_or t6 (bit_and (x / 256) 255) 0) in
     let a5 : ℕ = bit_xor a6 (get_or t5 (bit_and (x / 65536) 255) 0) in
@@ -156,3 +155,44 @@ eight_looked_up n x t0 t1 t2 t3 t4 t5 t6 t7 h r0 r1 r2 r3 r4 r5 r6 r7 =
     ∙ taken_next a2 (16 + n) (8 + n) (x / 281474976710656) (x / 72057594037927936) t1 (omega arith) (omega arith) r1
     ∙ taken_next a1 (8 + n) n (x / 72057594037927936) (x / 18446744073709551616) t0 (omega arith) (omega arith) r0
     ∙ ap (λ y. bit_xor a0 (turns n y)) none ∙ ap (bit_xor a0) (turns-zero n) ∙ xor_zero_r a0)
+
+-- a sum from its other end
+from_other_end : (a b c d e f g h : ℕ)
+    → bit_xor (bit_xor (bit_xor (bit_xor (bit_xor (bit_xor (bit_xor a b) c) d) e) f) g) h
+    ≡ bit_xor (bit_xor (bit_xor (bit_xor (bit_xor (bit_xor (bit_xor h g) f) e) d) c) b) a
+from_other_end a b c d e f g h =
+    let two : bit_xor h g ≡ bit_xor g h = xor_comm h g in
+    let step : (x s t : ℕ) → s ≡ t → bit_xor s x ≡ bit_xor x t = λ x s t same. ap (λ y. bit_xor y x) same ∙ xor_comm t x in
+    let right = step a _ _ (step b _ _ (step c _ _ (step d _ _ (step e _ _ (step f _ _ two))))) in
+    xor_assoc (bit_xor (bit_xor (bit_xor (bit_xor (bit_xor a b) c) d) e) f) g h
+    ∙ xor_assoc (bit_xor (bit_xor (bit_xor (bit_xor a b) c) d) e) f (bit_xor g h)
+    ∙ xor_assoc (bit_xor (bit_xor (bit_xor a b) c) d) e (bit_xor f (bit_xor g h))
+    ∙ xor_assoc (bit_xor (bit_xor a b) c) d (bit_xor e (bit_xor f (bit_xor g h)))
+    ∙ xor_assoc (bit_xor a b) c (bit_xor d (bit_xor e (bit_xor f (bit_xor g h))))
+    ∙ xor_assoc a b (bit_xor c (bit_xor d (bit_xor e (bit_xor f (bit_xor g h)))))
+    ∙ sym right
+
+-- the eight bytes of a word, each in its table
+pub eight_looked_up : (n x : ℕ) (t0 t1 t2 t3 t4 t5 t6 t7 : List ℕ) → x < 2 ^ 64
+    → IsTable (8 + n) t0 → IsTable (16 + n) t1 → IsTable (24 + n) t2 → IsTable (32 + n) t3
+    → IsTable (40 + n) t4 → IsTable (48 + n) t5 → IsTable (56 + n) t6 → IsTable (64 + n) t7
+    → bit_xor (bit_xor (bit_xor (bit_xor (bit_xor (bit_xor (bit_xor
+    (get_or t0 (bit_and (x / 72057594037927936) 255) 0)
+    (get_or t1 (bit_and (x / 281474976710656) 255) 0))
+    (get_or t2 (bit_and (x / 1099511627776) 255) 0))
+    (get_or t3 (bit_and (x / 4294967296) 255) 0))
+    (get_or t4 (bit_and (x / 16777216) 255) 0))
+    (get_or t5 (bit_and (x / 65536) 255) 0))
+    (get_or t6 (bit_and (x / 256) 255) 0))
+    (get_or t7 (bit_and x 255) 0) ≡ turns (64 + n) x
+eight_looked_up n x t0 t1 t2 t3 t4 t5 t6 t7 h r0 r1 r2 r3 r4 r5 r6 r7 =
+    from_other_end
+    (get_or t0 (bit_and (x / 72057594037927936) 255) 0)
+    (get_or t1 (bit_and (x / 281474976710656) 255) 0)
+    (get_or t2 (bit_and (x / 1099511627776) 255) 0)
+    (get_or t3 (bit_and (x / 4294967296) 255) 0)
+    (get_or t4 (bit_and (x / 16777216) 255) 0)
+    (get_or t5 (bit_and (x / 65536) 255) 0)
+    (get_or t6 (bit_and (x / 256) 255) 0)
+    (get_or t7 (bit_and x 255) 0)
+    ∙ from_lowest n x t0 t1 t2 t3 t4 t5 t6 t7 h r0 r1 r2 r3 r4 r5 r6 r7

@@ -30,14 +30,14 @@ pub fn after_each(start: u32, bytes: &[u8]) -> u32
 fn behind_64(word: u64) -> u32
     ensures { result ≡ turns 64 word }
 {
-    TABLE_7[(word & 0xff) as usize]
-        ^ TABLE_6[((word >> 8) & 0xff) as usize]
-        ^ TABLE_5[((word >> 16) & 0xff) as usize]
-        ^ TABLE_4[((word >> 24) & 0xff) as usize]
-        ^ TABLE_3[((word >> 32) & 0xff) as usize]
-        ^ TABLE_2[((word >> 40) & 0xff) as usize]
+    TABLE_0[((word >> 56) & 0xff) as usize]
         ^ TABLE_1[((word >> 48) & 0xff) as usize]
-        ^ TABLE_0[((word >> 56) & 0xff) as usize]
+        ^ TABLE_2[((word >> 40) & 0xff) as usize]
+        ^ TABLE_3[((word >> 32) & 0xff) as usize]
+        ^ TABLE_4[((word >> 24) & 0xff) as usize]
+        ^ TABLE_5[((word >> 16) & 0xff) as usize]
+        ^ TABLE_6[((word >> 8) & 0xff) as usize]
+        ^ TABLE_7[(word & 0xff) as usize]
 }
 
 // The word behind 128 zero bits.
@@ -45,14 +45,14 @@ fn behind_64(word: u64) -> u32
 fn behind_128(word: u64) -> u32
     ensures { result ≡ turns 128 word }
 {
-    TABLE_15[(word & 0xff) as usize]
-        ^ TABLE_14[((word >> 8) & 0xff) as usize]
-        ^ TABLE_13[((word >> 16) & 0xff) as usize]
-        ^ TABLE_12[((word >> 24) & 0xff) as usize]
-        ^ TABLE_11[((word >> 32) & 0xff) as usize]
-        ^ TABLE_10[((word >> 40) & 0xff) as usize]
+    TABLE_8[((word >> 56) & 0xff) as usize]
         ^ TABLE_9[((word >> 48) & 0xff) as usize]
-        ^ TABLE_8[((word >> 56) & 0xff) as usize]
+        ^ TABLE_10[((word >> 40) & 0xff) as usize]
+        ^ TABLE_11[((word >> 32) & 0xff) as usize]
+        ^ TABLE_12[((word >> 24) & 0xff) as usize]
+        ^ TABLE_13[((word >> 16) & 0xff) as usize]
+        ^ TABLE_14[((word >> 8) & 0xff) as usize]
+        ^ TABLE_15[(word & 0xff) as usize]
 }
 
 // The register behind sixteen more bytes.
@@ -63,7 +63,8 @@ fn after_block(sum: u32, block: &[u8; 16]) -> u32
     let (words, _) = block.as_chunks::<8>();
     let first = u64::from_le_bytes(words[0]) ^ u64::from(sum);
     let second = u64::from_le_bytes(words[1]);
-    behind_128(first) ^ behind_64(second)
+    // What stands on the sum before comes last, so that the rest needn't wait for it.
+    behind_64(second) ^ behind_128(first)
 }
 
 // The register behind these blocks.

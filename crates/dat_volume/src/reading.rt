@@ -54,6 +54,7 @@ pub(crate) fn record_at<T: Site>(
     ensures cause { HasCause server (T.counts site.old) (T.counts site.new) (IsErrOf result (GetFault.Fault (record { server = server }))) }
     ensures blame { IfErr result (ReadBlamesServer server) }
     ensures servers { T.servers site.new ≡ T.servers site.old }
+    ensures says { (T.counts site.new).say_faults ≡ (T.counts site.old).say_faults }
 {
     let place = place_of(entry);
     check_end(site, server, name, place)?;
@@ -78,6 +79,7 @@ pub(crate) fn cookie_at<T: Site>(
     ensures cause { HasCause server (T.counts site.old) (T.counts site.new) (IsErrOf result (GetFault.Fault (record { server = server }))) }
     ensures blame { IfErr result (ReadBlamesServer server) }
     ensures servers { T.servers site.new ≡ T.servers site.old }
+    ensures says { (T.counts site.new).say_faults ≡ (T.counts site.old).say_faults }
 {
     let place = place_of(entry);
     check_end(site, server, name, place)?;
@@ -94,6 +96,7 @@ fn check_end<T: Site>(site: &mut T, server: u32, name: &str, place: Place) -> Re
     ensures cause { HasCause server (T.counts site.old) (T.counts site.new) (IsErrOf result (GetFault.Fault (record { server = server }))) }
     ensures blame { IfErr result (ReadBlamesServer server) }
     ensures servers { T.servers site.new ≡ T.servers site.old }
+    ensures says { (T.counts site.new).say_faults ≡ (T.counts site.old).say_faults }
     ensures within { OnOk result (IsTrue T.tells → place.at + place.length ≤ length_of ((T.disk site.old).files (server, name.now))) }
 {
     let length = match site.size(server, name) {
@@ -122,6 +125,7 @@ fn range_at<T: Site>(
     ensures cause { HasCause server (T.counts site.old) (T.counts site.new) (IsErrOf result (GetFault.Fault (record { server = server }))) }
     ensures blame { IfErr result (ReadBlamesServer server) }
     ensures servers { T.servers site.new ≡ T.servers site.old }
+    ensures says { (T.counts site.new).say_faults ≡ (T.counts site.old).say_faults }
     ensures count { IfOk result (λ bytes. length bytes.items ≡ count) }
 {
     match read_range(alloc, site, server, name, at, count) {

@@ -40,7 +40,7 @@ pub struct DatVolume {
 }
 
 impl DatVolume {
-    ghost use Rattle.std.specs.Prelude.{◌≡◌, ◌+◌, ◌<◌, ◌≤◌, ◌^◌, IsTrue, IfSome, IfOk, IfErr, IsErrOf, OnOk};
+    ghost use Rattle.std.specs.Prelude.{◌≡◌, ◌+◌, ◌<◌, ◌≤◌, ◌^◌, IsTrue, IfSome, IfOk, IfErr, IsErrOf, OnOk, OnErr};
     ghost use Rattle.std.specs.FinMap.{empty};
     ghost use Rattle.site_model.specs.Counts.{HasCause};
     ghost use Rattle.world_model.specs.Sizes.{Fits};
@@ -59,6 +59,7 @@ impl DatVolume {
         ensures cause { HasCause server (T.counts site.old) (T.counts site.new) (IsErrOf result (VolumeFault.Fault (record { server = server }))) }
         ensures blame { IfErr result (BlamesServer server) }
         ensures servers { T.servers site.new ≡ T.servers site.old }
+        ensures says { (T.counts site.new).say_faults ≡ (T.counts site.old).say_faults }
     {
         let names = NewNames {
             dat: final_name(alloc, volume, Kind::Dat)?,
@@ -89,10 +90,12 @@ impl DatVolume {
         requires fits { IfSome needle.now.content Fits }
         requires room { self.old.used + length_of_record needle.now ≤ 2 ^ 35 }
         ensures used { OnOk result (self.new.used ≡ self.old.used + length_of_record needle.now) }
+        ensures kept { OnErr result (self.new.used ≡ self.old.used) }
         ensures place { (self.new.server ≡ self.old.server) × (self.new.volume ≡ self.old.volume) }
         ensures cause { HasCause self.old.server (T.counts site.old) (T.counts site.new) (IsErrOf result (VolumeFault.Fault (record { server = self.old.server }))) }
         ensures blame { IfErr result (BlamesServer self.old.server) }
         ensures servers { T.servers site.new ≡ T.servers site.old }
+        ensures says { (T.counts site.new).say_faults ≡ (T.counts site.old).say_faults }
     {
         let dat = final_name(alloc, self.volume, Kind::Dat)?;
         let idx = final_name(alloc, self.volume, Kind::Idx)?;
@@ -127,6 +130,7 @@ impl DatVolume {
         ensures cause { HasCause self.now.server (T.counts site.old) (T.counts site.new) (IsErrOf result (GetFault.Fault (record { server = self.now.server }))) }
         ensures blame { IfErr result (ReadBlamesServer self.now.server) }
         ensures servers { T.servers site.new ≡ T.servers site.old }
+        ensures says { (T.counts site.new).say_faults ≡ (T.counts site.old).say_faults }
     {
         let Some(entry) = self.index.get(id) else {
             return Ok(None);
@@ -148,6 +152,7 @@ impl DatVolume {
         ensures cause { HasCause self.now.server (T.counts site.old) (T.counts site.new) (IsErrOf result (GetFault.Fault (record { server = self.now.server }))) }
         ensures blame { IfErr result (ReadBlamesServer self.now.server) }
         ensures servers { T.servers site.new ≡ T.servers site.old }
+        ensures says { (T.counts site.new).say_faults ≡ (T.counts site.old).say_faults }
     {
         let Some(entry) = self.index.get(id) else {
             return Ok(None);

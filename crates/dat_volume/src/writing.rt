@@ -27,6 +27,7 @@ pub(crate) fn make_files<T: Site>(
     requires apart { AreApart names.now }
     ensures cause { HasCause server (T.counts site.old) (T.counts site.new) (IsErr result) }
     ensures servers { T.servers site.new ≡ T.servers site.old }
+    ensures says { (T.counts site.new).say_faults ≡ (T.counts site.old).say_faults }
 {
     append_firm(site, server, &names.dat_temp, super_block)?;
     append_firm(site, server, &names.idx_temp, &[])?;
@@ -47,6 +48,7 @@ pub(crate) fn append_record<T: Site>(
     requires { server < T.servers site.old }
     ensures cause { HasCause server (T.counts site.old) (T.counts site.new) (IsErr result) }
     ensures servers { T.servers site.new ≡ T.servers site.old }
+    ensures says { (T.counts site.new).say_faults ≡ (T.counts site.old).say_faults }
 {
     append_firm(site, server, dat, record)?;
     append_firm(site, server, idx, entry)?;

@@ -44,7 +44,7 @@ module _ (name temp : Place) (bytes : List ℕ) (differ : name ≢ temp) where
       whole
       (touches_on so_far.touches (touches_more (λ k here. ⊎_elim (λ e. inr e) (λ e. inl e) here) (touches_rename did)))
       (by_rename so_far.leaves did (λ image left. ⊎_elim (λ before. now so_far.leaves image before)
-          (λ after. inr (firm_left (Some (firm_file bytes)) (image name) (refl, refl) (subst (λ f. LeftOf f (image name)) is after.1))) left))
+      (λ after. inr (firm_left (Some (firm_file bytes)) (image name) (refl, refl) (subst (λ f. LeftOf f (image name)) is after.1))) left))
       (⊎_elim (λ same. inl (ap (λ (files : Files). files name) same ∙ run.others name differ)) (λ moved. inr (moved.there ∙ is)) did.either)
 
 -- a temporary file has another name

@@ -18,6 +18,7 @@ pub fn append_all<T: Site>(
     ensures done { OnOk result (IsTrue T.tells → (T.disk site.new).files (server, name.now) ≡ Some (grown ((T.disk site.old).files (server, name.now)) bytes.now)) }
     ensures cause { HasCause server (T.counts site.old) (T.counts site.new) (IsErr result) }
     ensures servers { T.servers site.new ≡ T.servers site.old }
+    ensures says { (T.counts site.new).say_faults ≡ (T.counts site.old).say_faults }
 {
     let mut at = bytes.len().min(PIECE);
     site.append(server, name, &bytes[..at])?;
@@ -41,6 +42,7 @@ pub fn append_firm<T: Site>(
     ensures done { OnOk result (IsTrue T.tells → (T.disk site.new).files (server, name.now) ≡ Some (firm_file (bytes_of ((T.disk site.old).files (server, name.now)) ++ bytes.now))) }
     ensures cause { HasCause server (T.counts site.old) (T.counts site.new) (IsErr result) }
     ensures servers { T.servers site.new ≡ T.servers site.old }
+    ensures says { (T.counts site.new).say_faults ≡ (T.counts site.old).say_faults }
 {
     append_all(site, server, name, bytes)?;
     site.sync(server, name)?;

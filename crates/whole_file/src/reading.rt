@@ -27,6 +27,7 @@ pub fn read_range<T: Site>(
     ensures cause { HasCause server (T.counts site.old) (T.counts site.new) (IsErrOf result (FileFault.Fault (record { server = server }))) }
     ensures blame { IfErr result (λ fault. (fault ≡ FileFault.Memory) ⊎ (fault ≡ FileFault.Fault (record { server = server }))) }
     ensures servers { T.servers site.new ≡ T.servers site.old }
+    ensures says { (T.counts site.new).say_faults ≡ (T.counts site.old).say_faults }
 {
     let mut bytes = zeros(alloc, count)?;
     let mut done = 0;
@@ -55,6 +56,7 @@ pub fn read_whole<T: Site>(
     ensures cause { HasCause server (T.counts site.old) (T.counts site.new) (IsErrOf result (FileFault.Fault (record { server = server }))) }
     ensures blame { IfErr result (λ fault. (fault ≡ FileFault.Memory) ⊎ (fault ≡ FileFault.Fault (record { server = server }))) }
     ensures servers { T.servers site.new ≡ T.servers site.old }
+    ensures says { (T.counts site.new).say_faults ≡ (T.counts site.old).say_faults }
 {
     let name = spell(
         alloc,

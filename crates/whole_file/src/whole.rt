@@ -16,6 +16,7 @@ pub fn clear<T: Site>(site: &mut T, server: u32, name: &str) -> Result<(), Faile
     ensures done { OnOk result (IsTrue T.tells → (T.disk site.new).files (server, name.now) ≡ None) }
     ensures cause { HasCause server (T.counts site.old) (T.counts site.new) (IsErr result) }
     ensures servers { T.servers site.new ≡ T.servers site.old }
+    ensures says { (T.counts site.new).say_faults ≡ (T.counts site.old).say_faults }
 {
     if site.size(server, name)?.is_some() {
         site.remove(server, name)?;
@@ -41,6 +42,7 @@ pub fn write_whole<T: Site>(
     ensures cause { HasCause server (T.counts site.old) (T.counts site.new) (IsErrOf result (FileFault.Fault (record { server = server }))) }
     ensures blame { IfErr result (λ fault. (fault ≡ FileFault.Memory) ⊎ (fault ≡ FileFault.Fault (record { server = server }))) }
     ensures servers { T.servers site.new ≡ T.servers site.old }
+    ensures says { (T.counts site.new).say_faults ≡ (T.counts site.old).say_faults }
 {
     let mut name = FileName {
         volume,
@@ -69,6 +71,7 @@ fn replace<T: Site>(
     ensures done { OnOk result (IsTrue T.tells → IsWritten (server, name.now) (server, temp.now) bytes.now (T.disk site.new)) }
     ensures cause { HasCause server (T.counts site.old) (T.counts site.new) (IsErr result) }
     ensures servers { T.servers site.new ≡ T.servers site.old }
+    ensures says { (T.counts site.new).say_faults ≡ (T.counts site.old).say_faults }
 {
     clear(site, server, temp)?;
     append_all(site, server, temp, bytes)?;

@@ -11,6 +11,7 @@ pub loop-at-init : goal.loop-at-init
 loop-at-init g c = record {
   within = omega arith;
   servers = c.append.ensures.servers;
+  says = c.append.ensures.counts.says;
   cause = cause_write c.in_ok-append.ensures.counts;
   effect = λ told. first_done _ _ _ c.min-at.result _ _ (grind (arith, common_steps)) (grind (arith, common_steps)) (c.append.ensures.effect told) (c.in_ok-append.ensures.done told);
 }
@@ -22,6 +23,7 @@ pub loop-at-preserved : goal.loop-at-preserved
 loop-at-preserved g c = record {
   within = omega arith;
   servers = c.append-in-loop-at.ensures.servers ∙ c.loop-at.invariant.servers;
+  says = c.append-in-loop-at.ensures.counts.says ∙ c.loop-at.invariant.says;
   cause = cause_on c.loop-at.invariant.cause (cause_write c.in_ok-append-2.ensures.counts);
   effect = λ told. next_done _ _ _ c.loop-at.at _ _ _ _ (slice_fits _ c.loop-at.at (c.loop-at.at + c.min.result) (omega arith) (omega arith)) (slice_joins _ c.loop-at.at (c.loop-at.at + c.min.result) (omega arith)) (c.loop-at.invariant.effect told) (c.append-in-loop-at.ensures.effect told) (c.in_ok-append-2.ensures.done told);
 }

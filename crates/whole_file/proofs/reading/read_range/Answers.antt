@@ -10,6 +10,7 @@ loop-done-preserved g c = record {
   within = omega arith;
   size = grind (arith, common_steps);
   servers = c.read.ensures.servers ∙ c.loop-done.invariant.servers;
+  says = c.read.ensures.counts.says ∙ c.loop-done.invariant.says;
   cause = cause_on c.loop-done.invariant.cause (cause_read c.in-Ok.ensures.counts);
   same = λ told. c.read.ensures.same told ∙ c.loop-done.invariant.same told;
   read = λ told. piece_joins _ c.loop-done.done c.min.result c.args.at c.deref_mut.result.now c.read.new.out _ _ _
@@ -18,5 +19,5 @@ loop-done-preserved g c = record {
       (grind (arith, common_steps))
       (ap (λ (l : List ℕ). take c.loop-done.done l) c.deref_mut.ensures.value ∙ c.loop-done.invariant.read told)
       (c.in-Ok.ensures.bytes told ∙ rw (c.loop-done.invariant.same told)
-          (ap (λ (n : ℕ). take n (drop (c.args.at + c.loop-done.done) (bytes_of ((g.T.Site.disk c.args.site.now).files (c.args.server, c.args.name.now))))) (grind (arith, common_steps))));
+      (ap (λ (n : ℕ). take n (drop (c.args.at + c.loop-done.done) (bytes_of ((g.T.Site.disk c.args.site.now).files (c.args.server, c.args.name.now))))) (grind (arith, common_steps))));
 }

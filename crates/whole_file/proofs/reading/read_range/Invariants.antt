@@ -8,6 +8,7 @@ invariant-loop-done g l = record {
   within : l.done ≤ l.count;
   size : length l.bytes.items ≡ l.count;
   servers : g.T.Site.servers l.site ≡ g.T.Site.servers l.fn.site;
+  says : (g.T.Site.counts l.site).say_faults ≡ (g.T.Site.counts l.fn.site).say_faults;
   cause : HasCause l.server (g.T.Site.counts l.fn.site) (g.T.Site.counts l.site) (false ≡ true);
   same : IsTrue g.T.Site.tells → g.T.Site.disk l.site ≡ g.T.Site.disk l.fn.site;
   read : IsTrue g.T.Site.tells → take l.done l.bytes.items ≡ take l.done (drop l.at (bytes_of ((g.T.Site.disk l.fn.site).files (l.server, l.name))));

@@ -1,14 +1,14 @@
 -- The calls of a record that grows.
-use Rattle.std.proofs.Common.{◌≡◌, ◌≢◌, ◌⊎◌, inl, inr, ⊎_elim, ℕ, ◌+◌, ◌<◌, ◌≤◌, ◌==◌, ◌&&◌, nat_lt, nat_le, Bool, true, false, cond, List, [], ◌∷◌, ◌++◌, get_or, Option, Some, None, is_some, MatchBool, Result, Ok, Err, OnOk, OnErr, is_ok, refl, sym, ◌∙◌, ap, subst, arith}
+use Rattle.std.proofs.Common.{◌≡◌, ℕ, ◌+◌, ◌<◌, ◌≤◌, ◌==◌, ◌&&◌, nat_lt, nat_le, Bool, true, false, cond, List, [], ◌∷◌, ◌++◌, get_or, Option, Some, None, is_some, MatchBool, Result, Ok, Err, OnOk, OnErr, is_ok, refl, sym, ◌∙◌, ap, subst, arith}
 use Rattle.std.proofs.lemmas.Bool.{and_parts, and_from, cond-true, cond-false, lt-ltb, le-ltb, le-leb, leb-true, eq-eqb, ne_eqb, cond_both}
-use Rattle.site_model.specs.Disk.{File, Place, Files, Call, Disk, HasFirmFront, appends, syncs, cuts, renames, removes, says}
+use Rattle.site_model.specs.Disk.{File, Place, Files, Disk, HasFirmFront, appends, syncs, cuts, renames, removes, says}
 use Rattle.site_mem.specs.declared.entry.Entry.{Entry}
 use Rattle.site_mem.specs.declared.stored.Stored.{Stored}
 use Rattle.site_mem.specs.declared.history.History.{History}
 use Rattle.site_mem.specs.Events.{Event, event_kept, added, told, called, after, files_after, put_file, is_place}
 use Rattle.site_mem.specs.Kept.{files_of, file_of, place_of}
 use Rattle.site_mem.specs.Lost.{has_lost, had_lost, files_without}
-use Rattle.site_mem.specs.Record.{nothing, after_entry, from, disk_of, AreSame}
+use Rattle.site_mem.specs.Record.{nothing, after_entry, from, disk_of}
 use Rattle.site_mem.specs.Entered.{IsEntered, IsKept}
 use Rattle.site_mem.specs.Calls.{Underway, call_of, at_call, Begins, are_numbered, IsNowhereElse}
 use Rattle.site_mem.specs.Effects.{Effect, IsDone}
@@ -124,6 +124,7 @@ module _ {n : ℕ} {b : Bool} {event : Event} {old new : History} where
     where
       fronts : (k : Place) → HasFirmFront ((disk_of old.entries.items old.lost.since).files k)
       fronts k = subst (λ f. HasFirmFront f) (old.files k) (front_of old.contents.files.items k)
+
       each : (made carried : Bool) → Effect event (disk_of old.entries.items old.lost.since) (cond made (after carried event (disk_of old.entries.items old.lost.since)) (disk_of old.entries.items old.lost.since))
       each true true = effect_done event (disk_of old.entries.items old.lost.since) fronts
       each true false = effect_begun event (disk_of old.entries.items old.lost.since)
@@ -161,11 +162,11 @@ module _ {n : ℕ} {b : Bool} {event : Event} {old new : History} where
   begins_stepped calls true is next numbered before =
       subst (λ (l : List Entry). Begins (disk_of old.entries.items old.lost.since) (call_of event) (at_call n nothing l new.lost.since)) (sym is.is.entries)
       (subst (λ v. Begins (disk_of old.entries.items old.lost.since) (call_of v) (at_call n nothing (old.entries.items ++ is.is.entry ∷ []) new.lost.since)) is.is.event
-        (at_pushed n calls nothing old.entries.items is.is.entry new.lost.since old.lost.since (omega (arith, next)) numbered is.is.number is.is.lost (λ s. omega (arith, before s, next))))
+      (at_pushed n calls nothing old.entries.items is.is.entry new.lost.since old.lost.since (omega (arith, next)) numbered is.is.number is.is.lost (λ s. omega (arith, before s, next))))
   begins_stepped calls false is next numbered before =
       subst (λ (l : List Entry). Begins (disk_of old.entries.items old.lost.since) None (at_call n nothing l new.lost.since)) (sym is.is.entries)
       (subst (λ (s : List ℕ). Begins (disk_of old.entries.items old.lost.since) None (at_call n nothing old.entries.items s)) (sym is.is.lost)
-        (at_end n calls nothing old.entries.items old.lost.since (omega (arith, next)) numbered (λ s. omega (arith, before s, next))))
+      (at_end n calls nothing old.entries.items old.lost.since (omega (arith, next)) numbered (λ s. omega (arith, before s, next))))
 
   -- earlier calls stay as they were
   pub earlier_stepped : (calls m : ℕ) (entered : Bool) → Steps n b event old new entered → n ≡ calls + 1 → m ≤ calls → at_call m nothing new.entries.items new.lost.since ≡ at_call m nothing old.entries.items old.lost.since

@@ -1,10 +1,10 @@
 -- What is carried out, begun or given up has the effect of its call.
-use Rattle.std.proofs.Common.{◌≡◌, ◌≢◌, ◌⊎◌, inl, inr, ⊎_elim, ℕ, ◌+◌, ◌≤◌, Bool, true, false, IsTrue, List, [], ◌++◌, length, take, Option, Some, None, refl, sym, ◌∙◌, ap, subst, arith}
+use Rattle.std.proofs.Common.{inl, inr, ◌++◌, length, Option, Some, None, refl, sym, ◌∙◌, ap, subst, arith}
 use Rattle.std.proofs.lemmas.List.{append-nil, take_all}
-use Rattle.site_model.specs.Disk.{File, Place, Files, Disk, HasFirmFront, IsFirmer, IsPartlyGrown, IsRenamed, IsLast, SameBut, grown, synced, cut_to, appends, syncs, cuts, renames, removes, says}
-use Rattle.site_mem.specs.Events.{Event, added, told, called, done, begun, after, put_file, is_place}
+use Rattle.site_model.specs.Disk.{File, Place, Disk, HasFirmFront, IsFirmer, synced, appends, syncs, cuts, renames, removes, says}
+use Rattle.site_mem.specs.Events.{Event, added, told, called, done, begun, put_file}
 use Rattle.site_mem.specs.Effects.{Effect, IsDone}
-use Rattle.site_mem.proofs.Places.{by_place, put_here, put_else}
+use Rattle.site_mem.proofs.Places.{put_here, put_else}
 
 -- a synced file is no less firm
 firmer : (file : Option File) → HasFirmFront file → IsFirmer file (synced file)

@@ -1,15 +1,15 @@
 -- The files of a list that grows, changes and shrinks.
-use Rattle.std.proofs.Common.{◌≡◌, ◌≢◌, ◌⊎◌, inl, inr, ⊎_elim, ℕ, zero, suc, ◌+◌, ◌<◌, ◌≤◌, ◌&&◌, not, Bool, true, false, cond, List, [], ◌∷◌, ◌++◌, length, take, drop, get_or, set, Option, Some, None, is_some, refl, sym, ◌∙◌, ap, subst, arith}
-use Rattle.std.specs.List.{remove, filter}
+use Rattle.std.proofs.Common.{◌≡◌, ◌≢◌, ◌⊎◌, inl, inr, ⊎_elim, ℕ, zero, suc, ◌+◌, ◌<◌, ◌≤◌, not, Bool, true, false, cond, List, [], ◌∷◌, ◌++◌, length, take, get_or, set, Option, Some, None, is_some, refl, sym, ◌∙◌, ap, subst, arith}
+use Rattle.std.specs.List.{remove}
 use Rattle.std.specs.Str.{bytes_eq}
 use Rattle.std.proofs.lemmas.Slice.Eq.{bytes_eq-Decides}
 use Rattle.std.proofs.lemmas.List.{take_more, take_all}
-use Rattle.std.proofs.lemmas.Bool.{cases_Bool, and_parts, and_from, not-true, not_from_false, cond-true, cond-false}
+use Rattle.std.proofs.lemmas.Bool.{and_parts, and_from, not-true, not_from_false, cond-false}
 use Rattle.site_model.specs.Disk.{File, Place, Files}
 use Rattle.site_mem.specs.declared.stored.Stored.{Stored}
 use Rattle.site_mem.specs.Events.{is_place, put_file}
 use Rattle.site_mem.specs.Kept.{place_of, file_of, files_of, are_apart, IsAt, MakesRoom}
-use Rattle.site_mem.proofs.Places.{is_place-self, by_place, put_here, put_else, put_again}
+use Rattle.site_mem.proofs.Places.{by_place, put_here, put_else, put_again}
 
 none_from : (file : Option File) → is_some file ≡ false → file ≡ None
 none_from None off = refl
@@ -75,9 +75,9 @@ files_set [] i d new k within apart free = absurd (omega arith)
 files_set (s ∷ kept) zero d new k within apart free = by_place (place_of new) k
     (λ e. ap (λ q. files_of (new ∷ kept) q) e ∙ at_first new kept ∙ sym (ap (λ q. put_file (place_of new) (Some (file_of new)) (put_file (place_of s) None (files_of (s ∷ kept))) q) e ∙ put_here (place_of new) (Some (file_of new)) (put_file (place_of s) None (files_of (s ∷ kept)))))
     (λ ne off. behind new kept k ne ∙ by_place (place_of s) k
-        (λ e. ap (λ q. files_of kept q) e ∙ apart_none s kept apart ∙ sym (ap (λ q. put_file (place_of s) None (files_of (s ∷ kept)) q) e ∙ put_here (place_of s) None (files_of (s ∷ kept))))
-        (λ other off. sym (put_else (place_of s) k None (files_of (s ∷ kept)) other ∙ behind s kept k other))
-        ∙ sym (put_else (place_of new) k (Some (file_of new)) (put_file (place_of s) None (files_of (s ∷ kept))) ne))
+    (λ e. ap (λ q. files_of kept q) e ∙ apart_none s kept apart ∙ sym (ap (λ q. put_file (place_of s) None (files_of (s ∷ kept)) q) e ∙ put_here (place_of s) None (files_of (s ∷ kept))))
+    (λ other off. sym (put_else (place_of s) k None (files_of (s ∷ kept)) other ∙ behind s kept k other))
+    ∙ sym (put_else (place_of new) k (Some (file_of new)) (put_file (place_of s) None (files_of (s ∷ kept))) ne))
 files_set (s ∷ kept) (suc i) d new k within apart free =
     let p = place_of (get_or kept i d) in
     let q = place_of new in
@@ -86,9 +86,9 @@ files_set (s ∷ kept) (suc i) d new k within apart free =
     let rest = files_set kept i d new k (omega arith) (apart_rest s kept apart) (free_rest s kept p q free) in
     by_place (place_of s) k
     (λ e. ap (λ r. files_of (s ∷ set kept i new) r) e ∙ at_first s (set kept i new)
-        ∙ sym (put_else q k (Some (file_of new)) (put_file p None (files_of (s ∷ kept))) (λ f. ne_q (sym f ∙ e)) ∙ put_else p k None (files_of (s ∷ kept)) (λ f. ne_p (sym f ∙ e)) ∙ ap (λ r. files_of (s ∷ kept) r) e ∙ at_first s kept))
+    ∙ sym (put_else q k (Some (file_of new)) (put_file p None (files_of (s ∷ kept))) (λ f. ne_q (sym f ∙ e)) ∙ put_else p k None (files_of (s ∷ kept)) (λ f. ne_p (sym f ∙ e)) ∙ ap (λ r. files_of (s ∷ kept) r) e ∙ at_first s kept))
     (λ ne off. behind s (set kept i new) k ne ∙ rest
-        ∙ ap (λ f. cond (is_place q k) (Some (file_of new)) (cond (is_place p k) None f)) (sym (behind s kept k ne)))
+    ∙ ap (λ f. cond (is_place q k) (Some (file_of new)) (cond (is_place p k) None f)) (sym (behind s kept k ne)))
 
 pub apart_set : (kept : List Stored) (i : ℕ) (d new : Stored) → i < length kept → are_apart kept ≡ true → IsFree kept (place_of (get_or kept i d)) (place_of new) → are_apart (set kept i new) ≡ true
 apart_set [] i d new within apart free = absurd (omega arith)
@@ -231,12 +231,12 @@ module _ (p q : Place) (old new : Files) (room : MakesRoom p q old new) where
   moved_at : (file : Option File) → file ≡ new p → (k : Place) → put_file q file (put_file p None new) k ≡ put_file q (old p) (put_file p None old) k
   moved_at file is k = by_place q k
       (λ e. ap (λ r. put_file q file (put_file p None new) r) e ∙ put_here q file (put_file p None new) ∙ is ∙ room.here
-        ∙ sym (ap (λ r. put_file q (old p) (put_file p None old) r) e ∙ put_here q (old p) (put_file p None old)))
+      ∙ sym (ap (λ r. put_file q (old p) (put_file p None old) r) e ∙ put_here q (old p) (put_file p None old)))
       (λ ne off. put_else q k file (put_file p None new) ne
-        ∙ by_place p k
-          (λ e. ap (λ r. put_file p None new r) e ∙ put_here p None new ∙ sym (ap (λ r. put_file p None old r) e ∙ put_here p None old))
-          (λ other off. put_else p k None new other ∙ room.others k ne ∙ sym (put_else p k None old other))
-        ∙ sym (put_else q k (old p) (put_file p None old) ne))
+      ∙ by_place p k
+      (λ e. ap (λ r. put_file p None new r) e ∙ put_here p None new ∙ sym (ap (λ r. put_file p None old r) e ∙ put_here p None old))
+      (λ other off. put_else p k None new other ∙ room.others k ne ∙ sym (put_else p k None old other))
+      ∙ sym (put_else q k (old p) (put_file p None old) ne))
 
   pub moved_room : put_file q (new p) (put_file p None new) ≡ put_file q (old p) (put_file p None old)
   moved_room = λ i k. (moved_at (new p) refl k) i
@@ -247,12 +247,13 @@ module _ (p q : Place) (old new : Files) (room : MakesRoom p q old new) where
     where
       at_new : new q ≡ new p
       at_new = ⊎_elim (λ e. ap new e) (λ gone. gone ∙ sym none) room.free
+
       kept : (k : Place) → put_file q (new p) (put_file p None new) k ≡ new k
       kept k = by_place q k
           (λ e. ap (λ r. put_file q (new p) (put_file p None new) r) e ∙ put_here q (new p) (put_file p None new) ∙ sym at_new ∙ ap new (sym e))
           (λ ne off. put_else q k (new p) (put_file p None new) ne ∙ by_place p k
-            (λ e. ap (λ r. put_file p None new r) e ∙ put_here p None new ∙ sym none ∙ ap new (sym e))
-            (λ other off. put_else p k None new other))
+          (λ e. ap (λ r. put_file p None new r) e ∙ put_here p None new ∙ sym none ∙ ap new (sym e))
+          (λ other off. put_else p k None new other))
 
 pub other_name : (server : ℕ) (old new : List ℕ) → true ≡ not (bytes_eq old new) → ◌≢◌ {A = Place} (server, old) (server, new)
 other_name server old new differ e = clash (bytes_eq old new) differ ((bytes_eq-Decides old new).1 (ap (λ (q : Place). q.1) e))

@@ -1,15 +1,14 @@
 -- What a call of a site in memory leaves.
-use Rattle.std.proofs.Common.{◌≡◌, ◌⊎◌, inl, inr, ℕ, ◌+◌, ◌-◌, ◌^◌, ◌<◌, ◌≤◌, ◌&&◌, ◌||◌, not, min, Bool, true, false, IsTrue, cond, List, Option, None, get_or, refl, sym, ◌∙◌, ap, subst, arith}
+use Rattle.std.proofs.Common.{◌≡◌, ◌⊎◌, inl, inr, ℕ, ◌+◌, ◌-◌, ◌^◌, ◌≤◌, ◌&&◌, ◌||◌, not, min, Bool, true, false, IsTrue, cond, None, get_or, refl, sym, ◌∙◌, ap, subst, arith}
 use Rattle.std.specs.Int.{from_bool}
-use Rattle.site_model.specs.Disk.{Disk}
 use Rattle.site_mem.specs.declared.mem.MemSite.{MemSite}
 use Rattle.site_mem.specs.declared.history.History.{History}
 use Rattle.site_mem.specs.declared.listed.Listed.{Listed}
 use Rattle.site_mem.specs.Events.{Event}
-use Rattle.site_mem.specs.Record.{nothing, disk_of}
+use Rattle.site_mem.specs.Record.{nothing}
 use Rattle.site_mem.specs.Failing.{lists}
-use Rattle.site_mem.specs.Calls.{Underway, call_of, at_call, Begins}
-use Rattle.site_mem.specs.Site.{disk_at, counts_at, next_at, wants_at, fails_at, reads_fail_at, call_at, KeepsListed, KeepsCalls, CanCount, Makes, Looks}
+use Rattle.site_mem.specs.Calls.{call_of, at_call, Begins}
+use Rattle.site_mem.specs.Site.{disk_at, next_at, wants_at, fails_at, call_at, KeepsListed, Makes, Looks}
 use Rattle.site_mem.proofs.Calling.{Steps, begins_stepped, earlier_stepped, begins_look}
 
 pub keeps_listed : (old new : MemSite) → new.listed ≡ old.listed → KeepsListed old new
@@ -28,7 +27,7 @@ looks failed old new same listed wants calls = record {
   keeps = keeps_listed old new listed;
   earlier = λ can number sooner. ap (λ (h : History). at_call number nothing h.entries.items h.lost.since) same;
   begins = λ can. subst (λ (h : History). Begins (disk_at old) None (at_call (next_at old) nothing h.entries.items h.lost.since)) (sym same)
-    (begins_look old.tally.calls (next_at old) old.history.entries.items old.history.lost.since (omega (arith, can)) old.numbered old.since);
+      (begins_look old.tally.calls (next_at old) old.history.entries.items old.history.lost.since (omega (arith, can)) old.numbered old.since);
 }
 
 -- What was asked was recorded or not, and failed or not.
@@ -37,7 +36,7 @@ module _ (event : Event) (old new : MemSite) (number : ℕ) (listed made entered
   same_steps =
       subst (λ e. Steps (next_at old) (not (fails_at old (next_at old))) event old.history new.history e) (sym is_made)
       (subst (λ b. Steps (next_at old) (not b) event old.history new.history entered) (lists ∙ ap (λ n. fails_at old n) next)
-        (subst (λ n. Steps n (not listed) event old.history new.history entered) next steps))
+      (subst (λ n. Steps n (not listed) event old.history new.history entered) next steps))
 
   pub makes : (failed : Bool) (wanting : ℕ) → failed ≡ (listed || not made) → new.listed ≡ old.listed → wants_at old ≤ 2 ^ 64 - 1 → wanting ≡ from_bool (not listed && not made) → new.wants ≡ min (old.wants + wanting) (2 ^ 64 - 1) → new.tally.calls ≡ next_at old
       → Makes event old new failed
@@ -53,14 +52,17 @@ module _ (event : Event) (old new : MemSite) (number : ℕ) (listed made entered
     where
       is_listed : listed ≡ fails_at old (next_at old)
       is_listed = lists ∙ ap (λ n. fails_at old n) next
+
       counted : (b e : Bool) → min (old.wants + from_bool (not b && not e)) (2 ^ 64 - 1) ≡ cond ((b || not e) && not b) (min (old.wants + 1) (2 ^ 64 - 1)) old.wants
       counted true true = omega (arith, fits)
       counted true false = omega (arith, fits)
       counted false true = omega (arith, fits)
       counted false false = refl
+
       or_true : (b : Bool) → (b || true) ≡ true
       or_true true = refl
       or_true false = refl
+
       either : (e : Bool) → failed ≡ (listed || not e) → Begins (disk_at old) (cond e (call_of event) None) (call_at new (next_at old))
           → Begins (disk_at old) (call_of event) (call_at new (next_at old)) ⊎ ((failed ≡ true) × Begins (disk_at old) None (call_at new (next_at old)))
       either true fails begins = inl begins

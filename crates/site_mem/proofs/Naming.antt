@@ -1,13 +1,12 @@
 -- The names of the files at a server.
-use Rattle.std.proofs.Common.{◌≡◌, ◌≢◌, ◌⊎◌, inl, inr, ⊎_elim, ℕ, zero, suc, ◌+◌, ◌<◌, ◌==◌, ◌↔◌, Bool, true, false, cond, List, [], ◌∷◌, ◌++◌, length, take, get_or, map, Option, Some, None, IsSome, is_some, string_bytes, refl, sym, ◌∙◌, ap, subst, arith}
+use Rattle.std.proofs.Common.{◌≡◌, ◌≢◌, ◌⊎◌, inl, inr, ⊎_elim, ℕ, zero, suc, ◌+◌, ◌<◌, ◌==◌, Bool, true, false, cond, List, [], ◌∷◌, ◌++◌, length, take, get_or, Option, None, IsSome, is_some, string_bytes, refl, sym, ◌∙◌, ap, subst, arith}
 use Rattle.std.specs.List.{Contains, AllPairs}
 use Rattle.std.proofs.lemmas.Bool.{cond_both, cond-true, eq-eqb, eqb-true}
 use Rattle.std.proofs.lemmas.List.Kept.{AllPairs-cons}
 use Rattle.std.proofs.lemmas.List.{take_more, get_or_default}
 use Rattle.site_model.specs.Disk.{File, Place, Files, IsListOf}
 use Rattle.site_mem.specs.declared.stored.Stored.{Stored}
-use Rattle.site_mem.specs.Events.{is_place}
-use Rattle.site_mem.specs.Kept.{place_of, file_of, files_of, are_apart, names_at}
+use Rattle.site_mem.specs.Kept.{place_of, files_of, are_apart, names_at}
 use Rattle.site_mem.specs.Record.{AreSame}
 use Rattle.site_mem.proofs.Places.{by_place}
 use Rattle.site_mem.proofs.Keeping.{apart_none, apart_rest, at_first, behind}
@@ -36,7 +35,7 @@ names_there : (server : ℕ) (name : List ℕ) (kept : List Stored) → IsSome (
 names_there server name [] is = absurd (cc is)
 names_there server name (s ∷ kept) is = by_place (place_of s) (server, name)
     (λ e. subst (λ n. Contains (names_at server (s ∷ kept)) n) (sym (ap (λ (k : Place). k.1) e))
-      (subst (λ l. Contains l (string_bytes s.name)) (sym (cond-true (s.server == server) _ _ (eq-eqb s.server server (sym (ap (λ (k : Place). k.0) e))))) (first_there (string_bytes s.name) (names_at server kept))))
+    (subst (λ l. Contains l (string_bytes s.name)) (sym (cond-true (s.server == server) _ _ (eq-eqb s.server server (sym (ap (λ (k : Place). k.0) e))))) (first_there (string_bytes s.name) (names_at server kept))))
     (λ ne off. more (s.server == server) (names_there server name kept (subst (λ f. IsSome f) (behind s kept (server, name) ne) is)))
   where
     more : (b : Bool) → Contains (names_at server kept) name → Contains (cond b (string_bytes s.name ∷ names_at server kept) (names_at server kept)) name
@@ -51,6 +50,7 @@ names_once server (s ∷ kept) apart = cond_both (s.server == server) (string_by
   where
     shown : (k : ℕ) (d : List ℕ) → k < length (names_at server kept) → string_bytes s.name ≡ get_or (names_at server kept) k d → get_or (names_at server kept) k (string_bytes s.name) ≡ string_bytes s.name
     shown k d within e = get_or_default (names_at server kept) k (string_bytes s.name) d within ∙ sym e
+
     none_there : s.server ≡ server → Contains (names_at server kept) (string_bytes s.name) → ⊥
     none_there here is = clash (files_of kept (server, string_bytes s.name)) (names_some server (string_bytes s.name) kept is)
         (ap (λ n. files_of kept (n, string_bytes s.name)) (sym here) ∙ apart_none s kept apart)

@@ -1,5 +1,5 @@
 -- The disk of a record that grows.
-use Rattle.std.proofs.Common.{◌≡◌, ℕ, ◌-◌, Bool, true, false, cond, nat_lt, List, [], ◌∷◌, ◌++◌, length, take, get_or, Option, None, refl, sym, ◌∙◌, ap, arith, length-append}
+use Rattle.std.proofs.Common.{◌≡◌, ℕ, ◌-◌, Bool, true, false, cond, nat_lt, List, [], ◌∷◌, ◌++◌, length, take, get_or, None, refl, sym, ◌∙◌, ap, arith, length-append}
 use Rattle.std.proofs.lemmas.List.{take_at}
 use Rattle.site_model.specs.Disk.{Place, Files, Disk}
 use Rattle.site_mem.specs.declared.entry.Entry.{Entry}
@@ -82,4 +82,4 @@ module _ (entries new_entries : List Entry) (since now : List ℕ) (e : Entry) (
 -- what was pushed is popped again
 pub popped : {A : Type 0} (old pushed : List A) (x : A) (n : ℕ) → pushed ≡ old ++ x ∷ [] → n ≡ length pushed → take (n - 1) pushed ≡ old
 popped old pushed x n is long =
-    ap (λ m. take m pushed) (omega (arith, long, ap length is, length-append old (x ∷ [])) ) ∙ ap (λ l. take (length old) l) is ∙ take_at old (x ∷ []) (length old) refl
+    ap (λ m. take m pushed) (omega (arith, long, ap length is, length-append old (x ∷ []))) ∙ ap (λ l. take (length old) l) is ∙ take_at old (x ∷ []) (length old) refl

@@ -1,5 +1,5 @@
 -- What is read of a file.
-use Rattle.std.proofs.Common.{◌≡◌, ℕ, ◌+◌, ◌≤◌, Bool, false, List, [], ◌∷◌, length, take, drop, Option, Some, None, is_some, refl, sym, ◌∙◌, ap, arith}
+use Rattle.std.proofs.Common.{◌≡◌, ℕ, ◌+◌, ◌≤◌, false, List, [], ◌∷◌, length, take, drop, Option, Some, None, is_some, refl, ap, arith}
 use Rattle.site_model.specs.Disk.{File, standing, size_of, bytes_of}
 
 pub sized : (file : Option File) (bytes : List ℕ) → ◌≡◌ {A = Option (List ℕ)} (Some bytes) (standing file) → ◌≡◌ {A = Option ℕ} (Some (length bytes)) (size_of file)

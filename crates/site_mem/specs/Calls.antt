@@ -1,10 +1,10 @@
 -- What stood as a call was made, from the record of all that was asked.
-use Rattle.std.specs.Prelude.{◌≡◌, ℕ, ◌+◌, ◌==◌, ◌&&◌, nat_lt, nat_le, Bool, true, false, IsTrue, if◌then◌else◌, List, [], ◌∷◌, slice_index, Option, Some, None, is_some, ◌≤◌}
-use Rattle.site_model.specs.Disk.{Place, Files, Call, Disk, LeftIn, LeftOfAll, SaidIn, Image}
+use Rattle.std.specs.Prelude.{◌≡◌, ℕ, ◌==◌, ◌&&◌, nat_lt, nat_le, Bool, true, false, if◌then◌else◌, List, [], ◌∷◌, Option, Some, None, is_some, ◌≤◌}
+use Rattle.site_model.specs.Disk.{Place, Files, Call, Disk}
 use Rattle.site_mem.specs.declared.entry.Entry.{Entry}
 use Rattle.site_mem.specs.Events.{Event, event_kept, added, told, called}
 use Rattle.site_mem.specs.Lost.{had_lost, files_without}
-use Rattle.site_mem.specs.Record.{nothing, after_entry, AreSame}
+use Rattle.site_mem.specs.Record.{after_entry, AreSame}
 
 -- What stood and had been said as a call was made, and the call, where it could change anything and is recorded.
 pub record Underway : Type 0 where

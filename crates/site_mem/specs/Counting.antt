@@ -1,7 +1,7 @@
 -- The counts of a site in memory.
-use Rattle.std.specs.Prelude.{◌≡◌, ℕ, ◌+◌, ◌-◌, ◌^◌, ◌<◌, min, List, length, slice_index, Option, Some, None}
-use Rattle.site_model.specs.Counts.{Counts, CountsRead, CountsWrite, CountsSay}
-use Rattle.site_model.specs.Disk.{Place, Call, appends, syncs, cuts, renames, removes, says}
+use Rattle.std.specs.Prelude.{◌≡◌, ℕ, ◌+◌, ◌-◌, ◌^◌, ◌<◌, min, length, slice_index}
+use Rattle.site_model.specs.Counts.{Counts, CountsWrite, CountsSay}
+use Rattle.site_model.specs.Disk.{appends, syncs, cuts, renames, removes, says}
 use Rattle.site_mem.specs.declared.tally.Tally.{Tally}
 use Rattle.site_mem.specs.Events.{Event, added, told, called}
 

@@ -1,5 +1,5 @@
 -- What an entry more makes of a history.
-use Rattle.std.specs.Prelude.{◌≡◌, ℕ, Bool, List, [], ◌∷◌, ◌++◌, slice_index}
+use Rattle.std.specs.Prelude.{◌≡◌, ℕ, Bool, [], ◌∷◌, ◌++◌, slice_index}
 use Rattle.site_mem.specs.declared.entry.Entry.{Entry}
 use Rattle.site_mem.specs.declared.history.History.{History}
 use Rattle.site_mem.specs.Events.{Event, event_kept}

@@ -1,5 +1,5 @@
 -- What is recorded of a site in memory, and what it makes of a disk.
-use Rattle.std.specs.Prelude.{◌≡◌, ℕ, ◌==◌, ◌&&◌, Bool, if◌then◌else◌, bytes_eq, String, string_bytes, Vec, List, [], ◌∷◌, ◌++◌, Option, Some, None}
+use Rattle.std.specs.Prelude.{ℕ, ◌==◌, ◌&&◌, Bool, if◌then◌else◌, bytes_eq, String, string_bytes, Vec, List, [], ◌∷◌, ◌++◌, Option, Some, None}
 use Rattle.std.specs.Borrow.{Bor}
 use Rattle.std.specs.declared.alloc.Global.{Global}
 use Rattle.site_model.specs.Disk.{File, Place, Files, Call, Disk, Moment, moment, grown, synced, cut_to, firm_file, appends, syncs, cuts, renames, removes, says}

@@ -1,5 +1,5 @@
 -- The servers that lost their files, from the numbers of the calls that found them lost.
-use Rattle.std.specs.Prelude.{ℕ, Bool, ◌&&◌, nat_lt, nat_le, if◌then◌else◌, List, slice_index, Option, Some, None}
+use Rattle.std.specs.Prelude.{ℕ, Bool, ◌&&◌, nat_lt, nat_le, if◌then◌else◌, List, slice_index, None}
 use Rattle.site_model.specs.Disk.{Files, Disk}
 
 abbrev pub has_lost : List ℕ → ℕ → Bool

@@ -1,9 +1,9 @@
 -- A site's disk, from the record of all that was asked.
-use Rattle.std.specs.Prelude.{◌≡◌, ℕ, Bool, List, [], ◌∷◌, Option, None, refl}
+use Rattle.std.specs.Prelude.{◌≡◌, ℕ, Bool, List, [], ◌∷◌, None, refl}
 use Rattle.std.specs.Coded.{Coded, code_by, coded×, coded_ℕ, coded_bool, coded_list, coded_option, Coded-set}
 use Rattle.site_model.specs.Disk.{File, Place, Files, Disk}
 use Rattle.site_mem.specs.declared.entry.Entry.{Entry}
-use Rattle.site_mem.specs.Events.{Event, event_kept, after}
+use Rattle.site_mem.specs.Events.{event_kept, after}
 use Rattle.site_mem.specs.Lost.{has_lost, without}
 
 -- no file, and nothing said

@@ -1,6 +1,6 @@
 -- What a site in memory shows, and what each of its calls leaves of that.
 use Rattle.std.specs.Prelude.{◌≡◌, ℕ, ◌+◌, ◌-◌, ◌^◌, ◌<◌, ◌≤◌, ◌⊎◌, ◌&&◌, ◌||◌, not, min, Bool, true, false, IsTrue, if◌then◌else◌, Option, None, slice_index_or}
-use Rattle.site_model.specs.Disk.{Disk, Call}
+use Rattle.site_model.specs.Disk.{Disk}
 use Rattle.site_model.specs.Counts.{Counts}
 use Rattle.site_mem.specs.declared.mem.MemSite.{MemSite}
 use Rattle.site_mem.specs.Events.{Event}

@@ -131,13 +131,7 @@ impl Contents {
     }
 
     // Gives a file another name.
-    fn rename(
-        &mut self,
-        alloc: Global,
-        server: u32,
-        old: &str,
-        new: &str,
-    ) -> Result<(), AllocError>
+    fn rename(&mut self, alloc: Global, server: u32, old: &str, new: &str) -> Result<(), AllocError>
         ensures ok { OnOk result (files_of self.new.files.items ≡ put_file (server, new.now) (files_of self.old.files.items (server, old.now)) (put_file (server, old.now) None (files_of self.old.files.items))) }
         ensures err { OnErr result (files_of self.new.files.items ≡ files_of self.old.files.items) }
         ensures said { self.new.said.items ≡ self.old.said.items }

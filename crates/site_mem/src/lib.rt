@@ -16,3 +16,6 @@ mod tally;
 pub use clock::FixedClock;
 pub use mem::MemSite;
 pub use source::MemSource;
+
+#[cfg(test)]
+mod tests;

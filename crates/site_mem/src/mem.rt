@@ -48,7 +48,10 @@ impl MemSite {
     {
         let number = self.tally.next();
         let is_listed = self.listed.has_call(number);
-        let entered = self.history.enter(self.alloc, number, &request, !is_listed).is_ok();
+        let entered = self
+            .history
+            .enter(self.alloc, number, &request, !is_listed)
+            .is_ok();
         let failed = is_listed | !entered;
         self.wants = self.wants.saturating_add(u64::from(!is_listed & !entered));
         self.tally.count(&request, failed);
@@ -119,11 +122,10 @@ impl MemSite {
         })
     }
 
-    /// A firm file more, before the first call.
+    /// A firm file, before the first call. It takes the place of one that was added before.
     pub fn add_file(&mut self, server: u32, name: &str, bytes: &[u8]) -> Result<(), AllocError>
         requires server { server < self.old.servers }
         requires none_made { (counts_at self.old).calls ≡ 0 }
-        requires absent { (disk_at self.old).files (server, name.now) ≡ None }
         ensures ok { OnOk result (disk_at self.new ≡ done (added (server, name.now) bytes.now) (disk_at self.old)) }
         ensures err { OnErr result (disk_at self.new ≡ disk_at self.old) }
         ensures counts { KeepsCounts self.old self.new }

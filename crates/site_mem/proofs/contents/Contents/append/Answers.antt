@@ -1,4 +1,4 @@
-use Rattle.std.proofs.Common.{◌≡◌, ◌∙◌, ap, refl, Some}
+use Rattle.std.proofs.Common.{◌∙◌, ap, refl, Some}
 use Rattle.std.proofs.lemmas.Result.{on_ok_weaker, on_err_weaker}
 use Rattle.site_model.specs.Disk.{grown}
 use Rattle.site_mem.proofs.Keeping.{place_kept, apart_changed, files_changed, put_same}

@@ -1,4 +1,4 @@
-use Rattle.std.proofs.Common.{◌≡◌, ◌<◌, ◌∙◌, ◌++◌, ◌∷◌, [], length, get_or, ap, sym, arith}
+use Rattle.std.proofs.Common.{◌<◌, ◌∙◌, ◌++◌, ◌∷◌, [], length, get_or, ap, sym, arith}
 use Rattle.site_mem.specs.Kept.{names_at}
 use Rattle.site_mem.proofs.Naming.{names_more}
 use Rattle.site_mem.proofs.contents.Contents.names.Goals as goal

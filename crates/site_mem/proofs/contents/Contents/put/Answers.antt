@@ -1,6 +1,5 @@
-use Rattle.std.proofs.Common.{◌≡◌, ◌∙◌, ap, sym, is_ok, Some}
-use Rattle.site_model.specs.Disk.{Place}
-use Rattle.site_mem.specs.Kept.{files_of, are_apart, place_of, file_of}
+use Rattle.std.proofs.Common.{◌∙◌, ap, sym, is_ok, Some}
+use Rattle.site_mem.specs.Kept.{files_of, are_apart, file_of}
 use Rattle.site_mem.specs.Events.{put_file}
 use Rattle.site_mem.proofs.Keeping.{apart_changed, files_replaced, tried_apart, pushed_files}
 use Rattle.site_mem.proofs.contents.Contents.put.Goals as goal

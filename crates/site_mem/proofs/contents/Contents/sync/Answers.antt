@@ -1,5 +1,5 @@
 use Rattle.site_model.specs.Disk.{synced}
-use Rattle.site_mem.proofs.Keeping.{place_kept, apart_changed, files_changed, put_same}
+use Rattle.site_mem.proofs.Keeping.{place_kept, apart_changed, files_changed}
 use Rattle.site_mem.proofs.contents.Contents.sync.Goals as goal
 
 pub invariant_of-self : goal.invariant_of-self

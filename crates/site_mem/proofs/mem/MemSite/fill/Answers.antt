@@ -1,5 +1,4 @@
-use Rattle.std.proofs.Common.{◌≡◌, ◌∙◌, ap, take, drop, length, arith}
-use Rattle.site_mem.proofs.Seeing.{bytes_are, no_bytes, reads_none}
+use Rattle.site_mem.proofs.Seeing.{no_bytes, reads_none}
 use Rattle.site_mem.proofs.mem.MemSite.fill.Goals as goal
 
 pub returns-in_default : goal.returns-in_default

@@ -1,4 +1,4 @@
-use Rattle.std.proofs.Common.{◌≡◌, ◌<◌, ◌≤◌, ◌∙◌, refl, sym, arith}
+use Rattle.std.proofs.Common.{◌≤◌, ◌∙◌, refl, sym, arith}
 use Rattle.site_mem.proofs.Calling.{steps_from, effect_stepped, done_stepped, numbered_stepped, since_stepped, nowhere_stepped}
 use Rattle.site_mem.proofs.Making.{makes, carried}
 use Rattle.site_mem.proofs.mem.MemSite.make.Goals as goal

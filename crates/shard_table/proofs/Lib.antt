@@ -1,0 +1,4 @@
+mod Counting
+mod Moving
+mod Volumes
+mod Tables

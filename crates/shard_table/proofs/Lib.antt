@@ -1,3 +1,4 @@
+mod Rows
 mod Counting
 mod Moving
 mod Volumes

@@ -1,5 +1,5 @@
 -- What the calls keep of a table.
-use Rattle.std.proofs.Common.{◌≡◌, ℕ, ◌<◌, ◌≤◌, Bool, true, false, cond, List, length, replicate, set, Option, Some, None, Result, Ok, Err, OnOk, OnErr, IfSome, refl, sym, ◌∙◌, ap, subst, arith}
+use Rattle.std.proofs.Common.{◌≡◌, ℕ, ◌<◌, ◌≤◌, Bool, true, false, cond, List, length, replicate, set, Option, Some, None, Result, Ok, Err, OnOk, OnErr, IfSome, IsSome, refl, sym, ◌∙◌, ap, subst, arith}
 use Rattle.std.specs.Option.{ForSome}
 use Rattle.std.specs.Prelude.{unwrap_or, slice_set}
 use Rattle.std.specs.Ordering.{nat_cmp, eq_by_cmp}
@@ -8,6 +8,7 @@ use Rattle.std.proofs.Math.ListN.{length-set}
 use Rattle.std.proofs.lemmas.List.Elements.{All-get_or, All-replicate, All-set}
 use Rattle.std.proofs.lemmas.Cmp.{nat_cmp_total}
 use Rattle.std.specs.FinMap.{FinMap, contains_key, empty, get, get-empty, get-insert, insert}
+use Rattle.shard_table.specs.TableLaws.{IsAdded-with_volume}
 use Rattle.shard_table.specs.Table.{IsRow, IsTable, Row, Table, no_places, place_in, row_of, with_place}
 
 pub IsRow-no_places : (servers : ℕ) → IsRow servers no_places
@@ -61,3 +62,7 @@ IsTable-empty servers some few = record {
 
 pub place_below : (servers : ℕ) (row : Row) (shard : ℕ) → IsRow servers row → shard < 16 → IfSome (place_in row shard) (λ server. server < servers)
 place_below servers row shard h low = All-get_or (λ p. IfSome p (λ server. server < servers)) row shard None (omega (arith, h.shards)) h.on_servers
+
+pub added_row : {T E : Type 0} (t : Table) (volume : ℕ) (rows : FinMap nat_cmp (List (Option ℕ))) (r : Result T E) → OnOk r (rows ≡ cond (contains_key t.rows volume) t.rows (insert t.rows volume no_places)) → OnOk r (IsSome (get rows volume))
+added_row t volume rows (Err e) ok = tt
+added_row t volume rows (Ok x) ok = rw ok (IsAdded-with_volume t volume)

@@ -1,0 +1,5 @@
+mod Rows
+mod Counting
+mod Moving
+mod Volumes
+mod Tables

@@ -1,1 +1,5 @@
-pub mod Fitting
+pub mod Lines
+pub mod Grammar
+pub mod Numerals
+pub mod Reading
+pub mod Texts

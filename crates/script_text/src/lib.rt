@@ -1,9 +1,22 @@
-//! The lines of a script and the texts of its replies.
+//! The lines of a script and the texts of replies.
 #![tactic(auto)]
 
 mod lines;
+mod options;
+mod parts;
 mod texts;
 mod values;
+mod words;
 
-pub use lines::{LineFault, is_blank, parse_line};
+pub use lines::parse_line;
 pub use texts::print_reply;
+pub use words::is_blank;
+
+/// Why a line isn't read.
+#[derive(Clone, Copy, Debug, PartialEq, Eq)]
+pub enum LineFault {
+    /// The grammar has no such line.
+    Syntax,
+    /// Memory is wanting.
+    Memory,
+}

@@ -1,40 +1,124 @@
-// The values that words spell.
-ghost use Rattle.std.specs.Prelude.{◌<◌, IfOk, length};
+//! Numbers and bytes, as words spell them.
+ghost use Rattle.std.specs.Prelude.{◌≡◌, ◌≢◌, slice_index, SomeIff};
+ghost use Rattle.std.specs.Str.Parse.{digits_value};
+ghost use Rattle.script_text.specs.Numerals.{IsNumber, is_plain};
+ghost use Rattle.script_text.specs.Grammar.{cookie_in, data_in, flags_in, hex_in, hex_of_length, number_in, steps_in, ttl_in, u32_in, u64_in};
+ghost use Rattle.script_text.specs.Reading.{Reads};
 
-use crate::lines::LineFault;
+use crate::LineFault;
+use hex::{FromHex, FromHexError};
 use std::alloc::Global;
+use wire_num::{get_u16, get_u32};
 use world_model::bytes::Bytes;
 
-// A number in decimal digits, without a sign and without leading zeros.
-pub(crate) fn number(word: &[u8]) -> Result<u64, LineFault> {
-    let is_plain = word.iter().all(|digit| digit.is_ascii_digit());
-    let leads_with_zero = word.len() > 1 && word[0] == b'0';
-    if !is_plain || leads_with_zero {
-        return Err(LineFault::Syntax);
+/// The flags that a record keeps, beside those of its parts, are the bits of 0xc1.
+const UNKEPT_FLAGS: u8 = 0x3e;
+
+/// A number in decimal digits, without sign and leading zeros, of at most `most`.
+pub(crate) fn number(word: &[u8], most: u64) -> Option<u64>
+    ensures { result ≡ number_in most word.now }
+{
+    if !is_plain(word) {
+        return None;
     }
-    let Ok(digits) = std::str::from_utf8(word) else {
-        return Err(LineFault::Syntax);
-    };
-    digits.parse::<u64>().map_err(|_| LineFault::Syntax)
+    let number = digits(word)?;
+    if number <= most { Some(number) } else { None }
 }
 
-// Eight hexadecimal digits.
-pub(crate) fn cookie(word: &[u8]) -> Result<u32, LineFault> {
-    let mut bytes = [0u8; 4];
-    match hex::decode_to_slice(word, &mut bytes) {
-        Ok(()) => Ok(u32::from_be_bytes(bytes)),
-        Err(_) => Err(LineFault::Syntax),
+/// No sign stands in front, and no zero before other bytes.
+fn is_plain(word: &[u8]) -> bool
+    ensures { result ≡ is_plain word.now }
+{
+    match word {
+        [b'+', ..] | [b'0', _, ..] => false,
+        _ => true,
     }
 }
 
-// An even number of hexadecimal digits, and at least two.
-pub(crate) fn data(alloc: Global, word: &[u8]) -> Result<Bytes, LineFault>
-    ensures { IfOk result (λ bytes. 0 < length bytes) }
+/// The number that decimal digits write, if it has room.
+fn digits(word: &[u8]) -> Option<u64>
+    requires { slice_index word.now 0 ≢ 43 }
+    ensures { SomeIff result (IsNumber word.now) (digits_value 10 word.now) }
+{
+    str::from_utf8(word).ok()?.parse().ok()
+}
+
+pub(crate) fn u64_word(word: &[u8]) -> Option<u64>
+    ensures { result ≡ u64_in word.now }
+{
+    number(word, u64::MAX)
+}
+
+pub(crate) fn u32_word(word: &[u8]) -> Option<u32>
+    ensures { result ≡ u32_in word.now }
+{
+    number(word, u64::from(u32::MAX)).map(|number| number as u32)
+}
+
+/// A number of steps: 1 to 1000000.
+pub(crate) fn steps_word(word: &[u8]) -> Option<u32>
+    ensures { result ≡ steps_in word.now }
+{
+    const MAX_STEPS: u64 = 1_000_000;
+    match number(word, MAX_STEPS)? {
+        0 => None,
+        steps => Some(steps as u32),
+    }
+}
+
+/// The bytes of an even number of hexadecimal digits of either case.
+pub(crate) fn hex_word(alloc: Global, word: &[u8]) -> Result<Bytes, LineFault>
+    ensures { Reads (hex_in word.now) result }
 {
     match hex::decode(alloc, word) {
-        Ok(bytes) if bytes.is_empty() => Err(LineFault::Syntax),
         Ok(bytes) => Ok(Bytes::new(bytes)),
-        Err(hex::FromHexError::OutOfMemory) => Err(LineFault::Memory),
+        Err(FromHexError::OutOfMemory) => Err(LineFault::Memory),
         Err(_) => Err(LineFault::Syntax),
+    }
+}
+
+/// The data of a needle: digits that are not empty, or `-` for none.
+pub(crate) fn data_word(alloc: Global, word: &[u8]) -> Result<Bytes, LineFault>
+    ensures { Reads (data_in word.now) result }
+{
+    match word {
+        b"-" => Ok(Bytes::new(Vec::new(alloc))),
+        [] => Err(LineFault::Syntax),
+        _ => hex_word(alloc, word),
+    }
+}
+
+/// The bytes of twice so many hexadecimal digits.
+fn hex_array<const N: usize>(word: &[u8]) -> Option<[u8; N]>
+    ensures { result ≡ hex_of_length N word.now }
+{
+    <[u8; N]>::from_hex(word).ok()
+}
+
+/// Eight hexadecimal digits.
+pub(crate) fn cookie_word(word: &[u8]) -> Option<u32>
+    ensures { result ≡ cookie_in word.now }
+{
+    let bytes = hex_array::<4>(word)?;
+    Some(get_u32(&bytes, 0))
+}
+
+/// Four hexadecimal digits, as a time to live stands in a record.
+pub(crate) fn ttl_word(word: &[u8]) -> Option<u16>
+    ensures { result ≡ ttl_in word.now }
+{
+    let bytes = hex_array::<2>(word)?;
+    Some(get_u16(&bytes, 0))
+}
+
+/// Two hexadecimal digits, of flags that are kept and given back.
+pub(crate) fn flags_word(word: &[u8]) -> Option<u8>
+    ensures { result ≡ flags_in word.now }
+{
+    let [flags] = hex_array::<1>(word)?;
+    if flags & UNKEPT_FLAGS == 0 {
+        Some(flags)
+    } else {
+        None
     }
 }

@@ -1,0 +1,5 @@
+mod Rows
+pub mod WordLaws
+pub mod NumberLaws
+pub mod HexLaws
+pub mod OptionLaws

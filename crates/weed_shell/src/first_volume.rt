@@ -1,5 +1,6 @@
 // The one volume of this stage, which is made where no file stands.
-ghost use Rattle.std.specs.Prelude.{◌≡◌, ◌≤◌};
+ghost use Rattle.std.specs.Prelude.{◌≡◌, ◌≤◌, IsTrue};
+ghost use Rattle.world_model.specs.Sizes.{Fits};
 ghost use Rattle.weed_shell.specs.Statuses.{status_of, status_of_get};
 
 use crate::Status;
@@ -9,7 +10,7 @@ use script_text::{LineFault, parse_line};
 use site_model::{Site, SiteError};
 use std::alloc::Global;
 use wire_num::record_length;
-use world_model::types::{Line, Refusal, Reply};
+use world_model::types::{Content, Line, Refusal, Reply};
 
 const VOLUME: u32 = 1;
 
@@ -17,6 +18,12 @@ const SERVER: u32 = 0;
 
 /// The most bytes of the data file.
 const LIMIT: u64 = 31_457_280_000;
+
+/// The most bytes of a needle's data.
+const MAX_DATA: usize = 1 << 21;
+
+/// The words of a `put` without parts.
+const PUT_WORDS: usize = 5;
 
 #[derive(Drop)]
 pub(crate) struct FirstVolume {
@@ -26,8 +33,7 @@ pub(crate) struct FirstVolume {
 }
 
 impl FirstVolume {
-    ghost use Rattle.std.specs.Prelude.{◌<◌, IfOk, IfErr, IfSome, IsTrue};
-    ghost use Rattle.world_model.specs.Sizes.{Fits};
+    ghost use Rattle.std.specs.Prelude.{◌<◌, IfOk, IfErr, IfSome};
     ghost use Rattle.weed_shell.specs.Causes.{AreLater, IsCausedBySite, IsRefusal};
 
     /// Makes the volume on an empty site. Any file is one that this program does not read yet.
@@ -68,12 +74,15 @@ impl FirstVolume {
         match parse_line(alloc, line) {
             Ok(
                 Line::Put {
+                    volume,
                     id,
                     cookie,
                     content,
-                    ..
                 },
             ) => {
+                if volume != VOLUME || !is_plain(&content) || word_count(line) != PUT_WORDS {
+                    return Ok(Reply::Syntax);
+                }
                 let needle = Record {
                     cookie,
                     id,
@@ -82,7 +91,13 @@ impl FirstVolume {
                 };
                 self.put(alloc, site, &needle)
             }
-            Ok(Line::Get { id, cookie, .. }) => self.get(alloc, site, id, cookie),
+            Ok(
+                Line::Get {
+                    volume: VOLUME,
+                    id,
+                    cookie,
+                },
+            ) => self.get(alloc, site, id, cookie),
             Ok(_) | Err(LineFault::Syntax) => Ok(Reply::Syntax),
             Err(LineFault::Memory) => Err(Status::Memory),
         }
@@ -144,6 +159,27 @@ impl FirstVolume {
             Err(fault) => Err(get_status(fault)),
         }
     }
+}
+
+// A content of data alone, and of as much as a record can hold.
+fn is_plain(content: &Content) -> bool
+    ensures { IsTrue result → Fits content.now }
+{
+    let length = content.bytes.as_slice().len();
+    length > 0
+        && length <= MAX_DATA
+        && content.flags == 0
+        && content.name.is_none()
+        && content.mime.is_none()
+        && content.modified.is_none()
+        && content.ttl.is_none()
+        && content.pairs.is_none()
+}
+
+fn word_count(line: &[u8]) -> usize {
+    line.split(|byte| *byte == b' ')
+        .filter(|word| !word.is_empty())
+        .count()
 }
 
 fn volume_status(fault: VolumeFault) -> Status

@@ -102,7 +102,7 @@ fn answer<T: Site>(alloc: Global, site: &mut T, reply: &Reply) -> Result<(), Sta
     ensures servers { T.servers site.new ≡ T.servers site.old }
 {
     let mut text = Vec::new(alloc);
-    match print_reply(alloc, reply, &mut text) {
+    match print_reply(reply, &mut text) {
         Ok(()) => say(site, &text),
         Err(_) => Err(Status::Memory),
     }

@@ -12,7 +12,7 @@ pub returns-in_err-say : goal.returns-in_err-say
 returns-in_err-say g c =
     let p = err_from_is_err_and c.from_residual-in_err-say.result c.from_residual-in_err-say.ensures.1 in
     rw (p.1, p.2) (caused_after _ (g.S.Source.faults c.args.source.now) _ (g.T.Site.counts c.args.site.now) (g.T.Site.counts c.open.new.site) (g.T.Site.counts c.say.new.site) _
-        (omega arith) c.open.ensures.later (caused_by_site _ _ (g.T.Site.counts c.open.new.site) (g.T.Site.counts c.say.new.site) _ c.in_err-say.ensures.caused))
+    (omega arith) c.open.ensures.later (caused_by_site _ _ (g.T.Site.counts c.open.new.site) (g.T.Site.counts c.say.new.site) _ c.in_err-say.ensures.caused))
 
 pub loop-lines-init : goal.loop-lines-init
 loop-lines-init g c = record {
@@ -25,7 +25,7 @@ pub returns-in_err-turn : goal.returns-in_err-turn
 returns-in_err-turn g c =
     let p = err_from_is_err_and c.from_residual-in_err-turn.result c.from_residual-in_err-turn.ensures.1 in
     rw (p.1, p.2) (caused_after _ _ _ (g.T.Site.counts c.args.site.now) (g.T.Site.counts c.loop-lines.site) (g.T.Site.counts c.turn.new.site) _
-        c.loop-lines.invariant.source c.loop-lines.invariant.later c.in_err-turn.ensures.caused)
+    c.loop-lines.invariant.source c.loop-lines.invariant.later c.in_err-turn.ensures.caused)
 
 pub loop-lines-preserved : goal.loop-lines-preserved
 loop-lines-preserved g c = record {

@@ -3,3 +3,4 @@ pub mod WordLaws
 pub mod NumberLaws
 pub mod HexLaws
 pub mod OptionLaws
+pub mod ReturnLaws

@@ -1,5 +1,5 @@
 -- What a reader of words answers.
-use Rattle.std.specs.Prelude.{◌≡◌, ℕ, if◌then◌else◌, List, [], ◌∷◌, length, drop, nat_eq, Bool, true, false, codes, Option, Some, None, Result, Ok, Err}
+use Rattle.std.specs.Prelude.{◌≡◌, if◌then◌else◌, List, [], ◌∷◌, length, drop, nat_eq, Bool, true, false, codes, Option, Some, None, Result, Ok, Err}
 use Rattle.std.specs.List.{starts_with}
 use Rattle.script_text.specs.declared.lines.Key.{Key}
 use Rattle.script_text.specs.declared.LineFault.{LineFault}

@@ -10,7 +10,7 @@ mod words;
 
 pub use lines::parse_line;
 pub use texts::print_reply;
-pub use words::is_blank;
+pub use words::{is_blank, without_return};
 
 /// Why a line isn't read.
 #[derive(Clone, Copy, Debug, PartialEq, Eq)]
@@ -20,3 +20,6 @@ pub enum LineFault {
     /// Memory is wanting.
     Memory,
 }
+
+#[cfg(test)]
+mod tests;

@@ -14,7 +14,8 @@ use crate::words::{Words, is_word};
 use std::alloc::Global;
 use world_model::types::{Command, Line};
 
-/// The line that the bytes spell.
+/// The line that the bytes spell, in words with spaces between them. It is `Syntax` exactly where the grammar has no
+/// such line, whatever its length: a reader of scripts refuses a line that is too long before.
 #[tactic(auto, unfolding(crate::specs::Grammar::line_of))]
 pub fn parse_line(alloc: Global, line: &[u8]) -> Result<Line, LineFault>
     ensures ok { IfOk result (λ l. line_of line.now ≡ Some l) }
@@ -29,6 +30,7 @@ pub fn parse_line(alloc: Global, line: &[u8]) -> Result<Line, LineFault>
     }
 }
 
+/// Every line but `put`.
 fn line_without_data(first: &[u8], words: Words<'_>) -> Option<Line>
     ensures { bytes_eq first.now (codes "put") ≡ false → result ≡ line_in first.now words.entry }
 {

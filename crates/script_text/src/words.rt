@@ -3,7 +3,7 @@ ghost use Rattle.std.specs.Prelude.{◌≡◌, ◌≤◌, ◌==◌, not, length}
 ghost use Rattle.std.specs.List.{prefix_len};
 ghost use Rattle.std.specs.Iterator.{YieldsFirstRef, item_count};
 ghost use Rattle.script_text.specs.Grammar.{is_word};
-ghost use Rattle.script_text.specs.Lines.{is_blank, words};
+ghost use Rattle.script_text.specs.Lines.{is_blank, without_return, words};
 
 use std::marker::Model;
 
@@ -14,6 +14,13 @@ pub fn is_blank(line: &[u8]) -> bool
     ensures { result ≡ is_blank line.now }
 {
     line.iter().all(|byte| *byte == SPACE)
+}
+
+/// A line without the carriage return at its end, where it has one.
+pub fn without_return(line: &[u8]) -> &[u8]
+    ensures { result.now ≡ without_return line.now }
+{
+    line.strip_suffix(b"\r").unwrap_or(line)
 }
 
 pub(crate) fn is_word(word: &[u8], wanted: &[u8]) -> bool

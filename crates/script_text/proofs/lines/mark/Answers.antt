@@ -1,4 +1,3 @@
-use Rattle.std.specs.Prelude.{codes}
 use Rattle.world_model.specs.declared.types.Line.TheVariants as variant
 use Rattle.script_text.specs.Grammar.{volume_option, mark_option}
 use Rattle.script_text.proofs.OptionLaws.{in_either_order}

@@ -1,7 +1,4 @@
-use Rattle.std.proofs.Common.{◌≡◌, ◌≢◌, ℕ, ◌<◌, List, length, subst, sym, ap, ◌∙◌}
-use Rattle.std.specs.Prelude.{SomeIff}
-use Rattle.std.specs.Str.Parse.{digits_value, ParsesUnsigned}
-use Rattle.script_text.specs.Numerals.{IsNumber}
+use Rattle.std.proofs.Common.{sym, ◌∙◌}
 use Rattle.script_text.proofs.NumberLaws.{not_number, number_from_text, found_text}
 use Rattle.script_text.proofs.values.digits.Goals as goal
 

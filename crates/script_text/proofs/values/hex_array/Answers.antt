@@ -1,4 +1,4 @@
-use Rattle.std.proofs.Common.{◌≡◌, ◌∙◌, ap}
+use Rattle.std.proofs.Common.{◌∙◌, ap}
 use Rattle.std.specs.Result.{result_ok}
 use Rattle.script_text.proofs.HexLaws.{sized_is}
 use Rattle.script_text.proofs.values.hex_array.Goals as goal

@@ -77,7 +77,8 @@ impl ShardTable {
     pub fn add_volume(&mut self, volume: u32) -> Result<(), AllocError>
         ensures ok { OnOk result (self.new ≡ with_volume self.old volume) }
         ensures err { OnErr result (self.new ≡ self.old) }
-        ensures added { IsAdded self.old volume → IsOk result }
+        ensures added { OnOk result (IsAdded self.new volume) }
+        ensures again { IsAdded self.old volume → IsOk result }
     {
         add_row(&mut self.rows, volume)
     }
@@ -92,11 +93,13 @@ impl ShardTable {
     }
 
     /// Sets the server that the shard stands on, or that it stands on none. It takes no memory.
+    #[tactic(auto, using(crate::specs::TableLaws::table_laws))]
     pub fn set(&mut self, volume: u32, shard: u8, place: Option<u32>)
         requires added { IsAdded self.old volume }
         requires shard { shard < room }
         requires server { ForSome place (λ server. server < self.old.servers) }
-        ensures { self.new ≡ with_place self.old volume shard place }
+        ensures placed { self.new ≡ with_place self.old volume shard place }
+        ensures still_added { IsAdded self.new volume }
     {
         set_place(&mut self.rows, volume, shard, place);
     }
@@ -149,7 +152,6 @@ mod tests {
     use std::test::Fail;
 
     /// The shards of volume 7 on four servers in turn, without those of server 0.
-    #[tactic(auto, using(crate::specs::TableLaws::table_laws))]
     fn three_servers_of_four(alloc: Global) -> Result<ShardTable, AllocError>
         ensures servers { IfOk result (λ table. table.servers ≡ 4) }
         ensures added { IfOk result (λ table. IsAdded table 7) }

@@ -138,7 +138,8 @@ impl<W: Drop> Board<W> {
     /// The number of the unfinished job that was started first, which is the lowest.
     pub fn first(&self) -> Option<u64>
         ensures first { result ≡ first_number self.now.unfinished }
-        ensures lowest { IfSome result (λ number. All (λ job. number ≤ job.number) self.now.unfinished) }
+        ensures lowest { IfSome result
+            (λ number. All (λ job. number ≤ job.number) self.now.unfinished) }
         ensures board { IsBoard self.now }
     {
         Some(self.jobs.first()?.number)

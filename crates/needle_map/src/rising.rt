@@ -22,7 +22,8 @@ pub(crate) fn search(entries: &[Entry], id: u64) -> Result<usize, usize>
 pub(crate) fn put_entry(entries: &mut Vec<Entry>, entry: Entry) -> Result<(), AllocError>
     requires { AreRising entries.old.items }
     ensures rising { AreRising entries.new.items }
-    ensures ok { OnOk result (by_id entries.new.items ≡ insert (by_id entries.old.items) entry.id entry) }
+    ensures ok { OnOk result
+        (by_id entries.new.items ≡ insert (by_id entries.old.items) entry.id entry) }
     ensures err { OnErr result (entries.new.items ≡ entries.old.items) }
     ensures overwrite_succeeds { IsSome (get (by_id entries.old.items) entry.id) → IsOk result }
 {

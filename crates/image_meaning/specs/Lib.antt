@@ -1,0 +1,7 @@
+pub mod Files
+pub mod Plain
+pub mod Coded
+pub mod Meaning
+pub mod Sound
+pub mod Ends
+pub mod Laws

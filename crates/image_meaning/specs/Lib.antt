@@ -5,3 +5,4 @@ pub mod Meaning
 pub mod Sound
 pub mod Ends
 pub mod Laws
+pub mod PlainLaws

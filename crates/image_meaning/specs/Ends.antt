@@ -1,5 +1,5 @@
 -- Tidy, whole and even volumes, losses, and which worlds are near.
-use Rattle.std.specs.Prelude.{◌≡◌, ◌⊎◌, ℕ, ◌+◌, ◌*◌, ◌<◌, ◌≤◌, ◌==◌, ◌&&◌, Bool, true, false, IsSome, List, length, Option, Some, None, count_by}
+use Rattle.std.specs.Prelude.{◌≡◌, ◌⊎◌, ℕ, ◌+◌, ◌*◌, ◌<◌, ◌≤◌, ◌==◌, ◌&&◌, Bool, true, false, IsSome, List, [], ◌∷◌, ◌++◌, length, Option, Some, None, count_by}
 use Rattle.std.specs.List.{list_any}
 use Rattle.site_model.specs.Disk.{Image}
 use Rattle.wire_num.specs.Pairs.{journal_bytes}
@@ -11,13 +11,14 @@ use Rattle.world_model.specs.declared.types.Command.TheVariants.{Encode, Rebuild
 use Rattle.file_names.specs.declared.Kind.{Kind}
 use Rattle.file_names.specs.declared.Kind.TheVariants.{Dat, Idx, Shard, Ecj}
 use Rattle.file_names.specs.Names.{IsKind, shard_count}
+use Rattle.stripe_layout.specs.declared.Info.{Info}
 use Rattle.needle_record.specs.Records.{end_of}
 use Rattle.site_model.specs.Standing.{lose}
 use Rattle.image_meaning.specs.Files.{VolumeFiles, files_of, temps_of, lose_files, max_servers, stands, bytes_at, all_shards, standing}
 use Rattle.image_meaning.specs.Plain.{kept_at, index_home}
-use Rattle.image_meaning.specs.Coded.{data_count, deleted_at}
-use Rattle.image_meaning.specs.Meaning.{mode_of, volume_in, meaning, max_volumes}
-use Rattle.image_meaning.specs.Sound.{Stands, IsHolder, IsPlain, IsCoded}
+use Rattle.image_meaning.specs.Coded.{data_count, volume_info, dat_of, deleted_at, coded_with}
+use Rattle.image_meaning.specs.Meaning.{mode_of, volume_of, volume_in, lost_volume, meaning, max_volumes}
+use Rattle.image_meaning.specs.Sound.{Stands, IsHolder, IsPlain, IsCoded, IsSound}
 
 -- ---- tidy
 
@@ -77,6 +78,37 @@ pub record SurvivesIn (files left : VolumeFiles) : Type 0 where
 
 abbrev pub IsSurvivable : Image → (ℕ → Bool) → Type 0
 IsSurvivable image lost = (v : ℕ) → v < max_volumes → SurvivesIn (files_of image v) (lose_files (files_of image v) lost)
+
+-- the longest list of deleted ids, or it without its last
+abbrev pub IsStage : List ℕ → List ℕ → Type 0
+IsStage longest ids = (ids ≡ longest) ⊎ ((id : ℕ) × (longest ≡ ids ++ id ∷ []))
+
+-- What a loss leaves of a coded volume: it is coded, of the same data file, and the ids of the longest journal are deleted, or all but its last.
+pub record IsCodedAfterLoss (files left : VolumeFiles) : Type 0 where
+  pub info : Info
+  pub has_info : volume_info files ≡ Some info
+  pub longest : List ℕ
+  pub some_holder : (server : ℕ) × IsHolder files server × (deleted_at files server ≡ longest)
+  pub none_longer : (server : ℕ) → IsHolder files server → IsStage longest (deleted_at files server)
+  pub ids : List ℕ
+  pub stage : IsStage longest ids
+  pub same_dat : dat_of left ≡ dat_of files
+  pub means : volume_of left ≡ Some (coded_with (dat_of files) info ids)
+
+-- what a survivable loss leaves of a volume
+pub record IsAfterLoss (files left : VolumeFiles) : Type 0 where
+  pub plain : IsPlain files → volume_of left ≡ volume_of files
+  pub coded : IsCoded files → IsCodedAfterLoss files left
+  pub lost : mode_of files ≡ Some mode.Lost → (volume_of left ≡ Some lost_volume) ⊎ (volume_of left ≡ None)
+  pub absent : mode_of files ≡ None → volume_of left ≡ None
+
+-- After a survivable loss a sound image means of each volume what it meant, but for the last deletion of a coded one and for volumes that are lost.
+abbrev pub LawOfLoss : Type 0
+LawOfLoss = (image : Image) (lost : ℕ → Bool) → IsSound image → IsSurvivable image lost → (v : ℕ) → v < max_volumes → IsAfterLoss (files_of image v) (files_of (lose lost image) v)
+
+-- A survivable loss leaves a sound image sound.
+abbrev pub LossesKeepSoundness : Type 0
+LossesKeepSoundness = (image : Image) (lost : ℕ → Bool) → IsSound image → IsSurvivable image lost → IsSound (lose lost image)
 
 -- the worlds that the image may mean after a loss
 pub record MayMean (image : Image) (w : World) : Type 0 where

@@ -1,10 +1,15 @@
 -- The files of one volume. What an image says of a volume is said of these alone.
 use Rattle.std.specs.Prelude.{◌≡◌, ℕ, zero, suc, Bool, false, true, is_some, if◌then◌else◌, List, [], Option, Some, None, filter, unwrap_or}
 use Rattle.std.specs.List.{list_any, range_with_len}
-use Rattle.site_model.specs.Disk.{Place, Image}
+use Rattle.site_model.specs.Disk.{Place, Files, Image}
+use Rattle.site_model.specs.Disk as disk
 use Rattle.file_names.specs.declared.Kind.{Kind}
 use Rattle.file_names.specs.declared.Kind.TheVariants.{Shard}
 use Rattle.file_names.specs.Names.{name_bytes, shard_count}
+
+-- what stands on a site
+abbrev pub contents : Files → Image
+contents files place = disk.standing (files place)
 
 -- by server and kind
 abbrev pub VolumeFiles : Type 0

@@ -21,7 +21,8 @@ use Rattle.image_meaning.specs.Laws.Servers.{lowest-some}
 use Rattle.image_meaning.specs.Laws.PlainLoss.{same_left, stands_stood}
 use Rattle.image_meaning.specs.Laws.Points.{range_below}
 use Rattle.image_meaning.specs.Laws.CodedLoss.{holder_left, holder_stood, info_left, dat_left, some_holder}
-use Rattle.image_meaning.specs.Laws.Journals.{snoc_same, IsStage}
+use Rattle.image_meaning.specs.Laws.Journals.{snoc_same}
+use Rattle.image_meaning.specs.Ends.{IsStage}
 
 -- ---- which list is longest
 

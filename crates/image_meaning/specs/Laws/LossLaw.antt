@@ -3,23 +3,22 @@ use Rattle.std.proofs.Common.{◌≡◌, ℕ, ◌+◌, ◌*◌, ◌≤◌, Bool,
 use Rattle.std.specs.Prelude.{◌||◌, nat_lt, nat_le, if◌then◌else◌, option_map}
 use Rattle.std.specs.Option.{option_map_or}
 use Rattle.std.specs.FinSet as set
-use Rattle.std.specs.Ordering.{nat_cmp}
 use mathlib.Core.Bool.{true≢false}
 use Rattle.std.proofs.lemmas.Bool.{leb-true, le-leb}
 use Rattle.file_names.specs.declared.Kind.TheVariants.{Idx}
 use Rattle.world_model.specs.declared.types.Mode.TheVariants as mode
-use Rattle.world_model.specs.World.{Volume}
 use Rattle.needle_record.specs.Records.{records, fold_records}
 use Rattle.stripe_layout.specs.declared.Info.{Info}
 use Rattle.image_meaning.specs.Files.{VolumeFiles, lose_files, stands, standing, is_holder}
 use Rattle.image_meaning.specs.Plain.{index_home}
-use Rattle.image_meaning.specs.Coded.{data_count, dat_of, deleted, coded_volume, without_ids}
+use Rattle.image_meaning.specs.Coded.{data_count, dat_of, deleted, coded_volume, coded_with, without_ids}
 use Rattle.image_meaning.specs.Meaning.{mode_of, volume_of, volume_by, has_long_dat}
 use Rattle.image_meaning.specs.Sound.{IsCoded, HasInfo, HasStripes, HasJournal}
 use Rattle.image_meaning.specs.Laws.Servers.{lowest-some, lowest-none}
 use Rattle.image_meaning.specs.Laws.PlainLoss.{stood}
 use Rattle.image_meaning.specs.Laws.CodedLoss.{info_left, dat_left, some_holder, any_range}
-use Rattle.image_meaning.specs.Laws.Journals.{IsStage, deleted_left}
+use Rattle.image_meaning.specs.Laws.Journals.{deleted_left}
+use Rattle.image_meaning.specs.Ends.{IsStage}
 
 -- a coded volume has no index, and shards that suffice
 pub record HasCodedForm (files : VolumeFiles) : Type 0 where
@@ -52,14 +51,6 @@ no_index_left files lost none = by_home (index_home (lose_files files lost)) ref
     by_home (Some s) e =
         let found = lowest-some (λ server. stands (lose_files files lost) server Idx) s e in
         absurd (true≢false (sym (stood files lost s Idx found.0.passes) ∙ lowest-none (λ server. stands files server Idx) none s found.1))
-
--- a coded volume of this data file, with these ids deleted
-abbrev pub coded_with : List ℕ → Info → List ℕ → Volume
-coded_with dat info ids = record {
-  mode = mode.Coded;
-  used = info.dat_size + 32 * set.len (set.from_list {R = nat_cmp} ids);
-  needles = without_ids (fold_records (records dat)).needles (set.from_list ids);
-}
 
 -- After a survivable loss a coded volume is coded, of the same data file; the deleted ids are those of the longest journal, or all but its last.
 pub coded_loss : (files : VolumeFiles) (lost : ℕ → Bool) (info : Info) → IsCoded files → HasInfo files info → HasStripes files info → (journal : HasJournal files info)

@@ -1,0 +1,76 @@
+-- The files of one volume. What an image says of a volume is said of these alone.
+use Rattle.std.specs.Prelude.{◌≡◌, ℕ, zero, suc, Bool, false, true, is_some, if◌then◌else◌, List, [], Option, Some, None, filter, unwrap_or}
+use Rattle.std.specs.List.{list_any, range_with_len}
+use Rattle.site_model.specs.Disk.{Place, Files, Image}
+use Rattle.site_model.specs.Disk as disk
+use Rattle.file_names.specs.declared.Kind.{Kind}
+use Rattle.file_names.specs.declared.Kind.TheVariants.{Shard}
+use Rattle.file_names.specs.Names.{name_bytes, shard_count}
+
+-- what stands on a site
+abbrev pub contents : Files → Image
+contents files place = disk.standing (files place)
+
+-- by server and kind
+abbrev pub VolumeFiles : Type 0
+VolumeFiles = ℕ → Kind → Option (List ℕ)
+
+abbrev pub place_of : ℕ → ℕ → Kind → Bool → Place
+place_of v server kind temp = (server, name_bytes (record { volume = v; kind = kind; temp = temp }))
+
+-- the files of the volume
+abbrev pub files_of : Image → ℕ → VolumeFiles
+files_of image v server kind = image (place_of v server kind false)
+
+-- its temporary files
+abbrev pub temps_of : Image → ℕ → VolumeFiles
+temps_of image v server kind = image (place_of v server kind true)
+
+-- without those of the lost servers
+abbrev pub lose_files : VolumeFiles → (ℕ → Bool) → VolumeFiles
+lose_files files lost server kind = if lost server then None else files server kind
+
+-- the images have the same files of the volume
+abbrev pub SameVolume : ℕ → Image → Image → Type 0
+SameVolume v a b = (server : ℕ) (kind : Kind) → files_of a v server kind ≡ files_of b v server kind
+
+-- ---- servers
+
+abbrev pub max_servers : ℕ
+max_servers = 64
+
+-- the first of n servers from this one on that passes
+unfoldable pub first_from : ℕ → ℕ → (ℕ → Bool) → Option ℕ
+first_from zero server test = None
+first_from (suc n) server test = if test server then Some server else first_from n (suc server) test
+
+-- the lowest server that passes
+unfoldable pub lowest : (ℕ → Bool) → Option ℕ
+lowest test = first_from max_servers 0 test
+
+abbrev pub all_servers : List ℕ
+all_servers = range_with_len 0 max_servers
+
+-- ---- which files stand
+
+abbrev pub stands : VolumeFiles → ℕ → Kind → Bool
+stands files server kind = is_some (files server kind)
+
+-- an absent file counts as one without bytes
+abbrev pub bytes_at : VolumeFiles → ℕ → Kind → List ℕ
+bytes_at files server kind = unwrap_or (files server kind) []
+
+abbrev pub all_shards : List ℕ
+all_shards = range_with_len 0 shard_count
+
+-- a server with a shard of the volume
+unfoldable pub is_holder : VolumeFiles → ℕ → Bool
+is_holder files server = list_any (λ i. stands files server (Shard i)) all_shards
+
+-- the lowest server that has the shard
+abbrev pub shard_home : VolumeFiles → ℕ → Option ℕ
+shard_home files i = lowest (λ server. stands files server (Shard i))
+
+-- the shards that stand at some server
+unfoldable pub standing : VolumeFiles → List ℕ
+standing files = filter (λ i. is_some (shard_home files i)) all_shards

@@ -1,5 +1,5 @@
 -- Columns of data with their parity.
-use Rattle.std.proofs.Common.{◌≡◌, inl, inr, ℕ, zero, suc, ◌+◌, ◌-◌, ◌*◌, ◌/◌, ◌<◌, ◌≤◌, List, [], ◌∷◌, ◌++◌, length, map, get_or, refl, sym, ◌∙◌, ap, subst, arith, length-append, Fits, w8}
+use Rattle.std.proofs.Common.{◌≡◌, inl, inr, ℕ, zero, suc, ◌+◌, ◌-◌, ◌*◌, ◌/◌, ◌<◌, ◌≤◌, List, ◌++◌, length, map, get_or, sym, ◌∙◌, ap, subst, arith, length-append, Fits, w8}
 use Rattle.std.specs.Prelude.{slice_index}
 use Rattle.std.specs.List.{range_with_len, AllByRecursion}
 use Rattle.std.proofs.lemmas.Bool.{cases_lt}
@@ -26,13 +26,13 @@ column_of_word k m n i source parity have c first wide values parities =
     (omega (arith, wide, length-append (column k n i source) (column m n i parity), length-column k n i source, length-column m n i parity))
     (λ r h. elim (cases_lt r k) [
       | inl below ↦
-        sym (ap (slice_index c) (first.entries r below)) ∙ sym (get_or-map (slice_index c) have r 0 0 (omega (arith, first.width))) ∙ ap (λ l. get_or l r 0) values
-        ∙ sym (get_or_append_left (column k n i source) (column m n i parity) 0 r (omega (arith, length-column k n i source)))
+          sym (ap (slice_index c) (first.entries r below)) ∙ sym (get_or-map (slice_index c) have r 0 0 (omega (arith, first.width))) ∙ ap (λ l. get_or l r 0) values
+          ∙ sym (get_or_append_left (column k n i source) (column m n i parity) 0 r (omega (arith, length-column k n i source)))
       | inr above ↦
-        let place : k + (r - k) ≡ r = omega arith in
-        let rest : r - k < m = omega (arith, wide) in
-        sym (get_or-append_right (column k n i source) (column m n i parity) k r 0 (length-column k n i source) above
-        ∙ get_or-column m n i parity (r - k) rest ∙ parities (r - k) rest ∙ ap (slice_index c) place)
+          let place : k + (r - k) ≡ r = omega arith in
+          let rest : r - k < m = omega (arith, wide) in
+          sym (get_or-append_right (column k n i source) (column m n i parity) k r 0 (length-column k n i source) above
+          ∙ get_or-column m n i parity (r - k) rest ∙ parities (r - k) rest ∙ ap (slice_index c) place)
     ])
 
 -- a column is a codeword where its parity is what the codeword of its data has

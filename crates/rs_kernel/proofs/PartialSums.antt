@@ -67,10 +67,10 @@ pub sum_goes_on : (row : List ℕ) (n at : ℕ) (pieces : List ℕ) (j c : ℕ) 
 sum_goes_on row n at pieces j c values sum result h e loaded adds so_far = record {
   wide = adds.wide;
   lanes = λ i k.
-  let place : j * n + at + i ≡ j * n + (at + i) = omega arith in
-  adds.lanes i k
-  ∙ (λ m. bit_xor (so_far.lanes i k m) (field_mul (e m) ((loaded i k ∙ ap (slice_index pieces) place) m)))
-  ∙ sym (partial-suc row n (at + i) pieces j h);
+      let place : j * n + at + i ≡ j * n + (at + i) = omega arith in
+      adds.lanes i k
+      ∙ (λ m. bit_xor (so_far.lanes i k m) (field_mul (e m) ((loaded i k ∙ ap (slice_index pieces) place) m)))
+      ∙ sym (partial-suc row n (at + i) pieces j h);
 }
 
 pub sum_ends : (row : List ℕ) (n at : ℕ) (pieces : List ℕ) (j : ℕ) (sum : List ℕ) → j ≡ length row → SumsTo row n at pieces j sum → IsBlock row n at pieces sum
@@ -109,11 +109,11 @@ block_written row n pieces at out lanes room block so_far = record {
   bytes = λ i h. elim (cases_lt i at) [
     | inl below ↦ get_or-put_chunk_below at out lanes i 0 below ∙ so_far.bytes i below
     | inr above ↦
-      let place : at + (i - at) ≡ i = omega arith in
-      let inside : i - at < 32 = omega arith in
-      ap (λ j. get_or (put_chunk at out lanes) j 0) (sym place)
-      ∙ get_or-put_chunk_at at out lanes (i - at) 0 (omega (arith, block.wide)) (omega (arith, so_far.wide, block.wide))
-      ∙ block.sums (i - at) inside ∙ ap (λ j. weighed row n j pieces) place
+        let place : at + (i - at) ≡ i = omega arith in
+        let inside : i - at < 32 = omega arith in
+        ap (λ j. get_or (put_chunk at out lanes) j 0) (sym place)
+        ∙ get_or-put_chunk_at at out lanes (i - at) 0 (omega (arith, block.wide)) (omega (arith, so_far.wide, block.wide))
+        ∙ block.sums (i - at) inside ∙ ap (λ j. weighed row n j pieces) place
   ];
 }
 
@@ -129,7 +129,7 @@ pub byte_written : (row : List ℕ) (n : ℕ) (pieces : List ℕ) (at : ℕ) (ou
 byte_written row n pieces at out byte room sum so_far = record {
   wide = length-set out at byte ∙ so_far.wide;
   bytes = below_more (λ i. slice_index (set out at byte) i ≡ weighed row n i pieces) at
-  (λ i h. let other : i ≢ at = omega arith in rw get_or-set_other (so_far.bytes i h)) (let inside : at < length out = omega (arith, so_far.wide) in rw get_or-set_same sum);
+      (λ i h. let other : i ≢ at = omega arith in rw get_or-set_other (so_far.bytes i h)) (let inside : at < length out = omega (arith, so_far.wide) in rw get_or-set_same sum);
 }
 
 -- ---- a multiple added so far
@@ -149,12 +149,12 @@ block_added c src old at out values sum lanes room loaded held adds so_far = rec
   done = λ i h. elim (cases_lt i at) [
     | inl below ↦ get_or-put_chunk_below at out lanes i 0 below ∙ so_far.done i below
     | inr above ↦
-      let place : at + (i - at) ≡ i = omega arith in
-      let inside : i - at < 32 = omega arith in
-      ap (λ j. get_or (put_chunk at out lanes) j 0) (sym place)
-      ∙ get_or-put_chunk_at at out lanes (i - at) 0 (omega (arith, adds.wide)) (omega (arith, so_far.wide, adds.wide))
-      ∙ adds.lanes (i - at) inside
-      ∙ (λ m. bit_xor ((held (i - at) inside ∙ ap (slice_index out) place ∙ so_far.left i above) m) (field_mul c ((loaded (i - at) inside ∙ ap (slice_index src) place) m)))
+        let place : at + (i - at) ≡ i = omega arith in
+        let inside : i - at < 32 = omega arith in
+        ap (λ j. get_or (put_chunk at out lanes) j 0) (sym place)
+        ∙ get_or-put_chunk_at at out lanes (i - at) 0 (omega (arith, adds.wide)) (omega (arith, so_far.wide, adds.wide))
+        ∙ adds.lanes (i - at) inside
+        ∙ (λ m. bit_xor ((held (i - at) inside ∙ ap (slice_index out) place ∙ so_far.left i above) m) (field_mul c ((loaded (i - at) inside ∙ ap (slice_index src) place) m)))
   ];
   left = λ i h. get_or-put_chunk_above at out lanes i 0 (omega (arith, adds.wide)) ∙ so_far.left i (omega arith);
 }
@@ -166,7 +166,7 @@ byte_added c src old at out byte room sum so_far =
     record {
       wide = length-set out at byte ∙ so_far.wide;
       done = below_more (λ i. slice_index (set out at byte) i ≡ bit_xor (slice_index old i) (field_mul c (slice_index src i))) at
-      (λ i h. let other : i ≢ at = omega arith in rw get_or-set_other (so_far.done i h))
-      (rw get_or-set_same (sum ∙ ap (λ m. bit_xor m (field_mul c (slice_index src at))) (so_far.left at (omega arith))));
+          (λ i h. let other : i ≢ at = omega arith in rw get_or-set_other (so_far.done i h))
+          (rw get_or-set_same (sum ∙ ap (λ m. bit_xor m (field_mul c (slice_index src at))) (so_far.left at (omega arith))));
       left = λ i h. let other : i ≢ at = omega arith in rw get_or-set_other (so_far.left i (omega arith));
     }

@@ -30,7 +30,11 @@ impl Weight {
     pub fn new(coefficient: u8) -> Self
         ensures { result.coefficient ≡ coefficient }
     {
-        Weight { coefficient, low: low_products(coefficient), high: high_products(coefficient) }
+        Weight {
+            coefficient,
+            low: low_products(coefficient),
+            high: high_products(coefficient),
+        }
     }
 
     /// The sum with the coefficient times the value in each lane.
@@ -63,7 +67,12 @@ impl Sums {
         ensures fourth { result.fourth ≡ replicate 32 0 }
     {
         let zero = Lanes::splat(0);
-        Sums { first: zero, second: zero, third: zero, fourth: zero }
+        Sums {
+            first: zero,
+            second: zero,
+            third: zero,
+            fourth: zero,
+        }
     }
 
     /// The sums with one weight of the same values added to each. The values are split into nibbles once.

@@ -24,7 +24,9 @@ pub fn mul_add(out: &mut [u8], src: &[u8], c: u8)
     let blocks = out.len() / WIDTH;
     for index in 0..blocks {
         let at = index * WIDTH;
-        weight.added(load(out, at), load(src, at)).copy_to_slice(&mut out[at..]);
+        weight
+            .added(load(out, at), load(src, at))
+            .copy_to_slice(&mut out[at..]);
     }
     for at in blocks * WIDTH..out.len() {
         out[at] = add(out[at], mul(c, src[at]));

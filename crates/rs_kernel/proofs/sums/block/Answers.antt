@@ -1,4 +1,4 @@
-use Rattle.std.proofs.Common.{ℕ, ◌≡◌, List, length, replicate, arith}
+use Rattle.std.proofs.Common.{◌≡◌, length, replicate, arith}
 use Rattle.rs_kernel.specs.Weights.{coefficients_of}
 use Rattle.rs_kernel.proofs.PartialSums.{sum_begins, weight_adds, sum_ends, length-coefficients}
 use Rattle.rs_kernel.proofs.sums.block.Goals as goal

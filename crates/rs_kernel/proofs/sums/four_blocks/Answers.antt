@@ -1,4 +1,4 @@
-use Rattle.std.proofs.Common.{ℕ, ◌≡◌, List, length, replicate, subst, sym, arith}
+use Rattle.std.proofs.Common.{◌≡◌, length, subst, sym, arith}
 use Rattle.rs_kernel.specs.Weights.{coefficients_of}
 use Rattle.rs_kernel.proofs.PartialSums.{SumsTo, sum_begins, weight_adds, sum_ends, length-coefficients}
 use Rattle.rs_kernel.proofs.sums.four_blocks.Goals as goal

@@ -8,5 +8,5 @@ loop-index-preserved c =
     let room : (c.loop-index.index + 1) * 32 ≤ length c.args.out.now = omega arith in (
       c.loop-index.invariant.0,
       next_block_written c.args.row.now (coefficients_of c.weights_of-weights.result) (length c.args.out.now) c.args.pieces.now c.loop-index.index c.loop-index.out c.block.result
-      c.loop-index.invariant.0 room c.block.ensures c.loop-index.invariant.1,
+          c.loop-index.invariant.0 room c.block.ensures c.loop-index.invariant.1,
     )

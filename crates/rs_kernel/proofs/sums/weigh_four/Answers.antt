@@ -12,18 +12,18 @@ loop-index-preserved c =
     record {
       first_weights = c.loop-index.invariant.first_weights;
       first =
-      next_block_written c.args.a.now (coefficients_of c.weights_of-first_weights.result) n p index c.loop-index.first c.four_blocks-sums.result.first
-      c.loop-index.invariant.first_weights room c.four_blocks-sums.ensures.first c.loop-index.invariant.first;
+          next_block_written c.args.a.now (coefficients_of c.weights_of-first_weights.result) n p index c.loop-index.first c.four_blocks-sums.result.first
+          c.loop-index.invariant.first_weights room c.four_blocks-sums.ensures.first c.loop-index.invariant.first;
       second_weights = c.loop-index.invariant.second_weights;
       second =
-      next_block_written c.args.b.now (coefficients_of c.weights_of-second_weights.result) n p index c.loop-index.second c.four_blocks-sums.result.second
-      c.loop-index.invariant.second_weights room c.four_blocks-sums.ensures.second c.loop-index.invariant.second;
+          next_block_written c.args.b.now (coefficients_of c.weights_of-second_weights.result) n p index c.loop-index.second c.four_blocks-sums.result.second
+          c.loop-index.invariant.second_weights room c.four_blocks-sums.ensures.second c.loop-index.invariant.second;
       third_weights = c.loop-index.invariant.third_weights;
       third =
-      next_block_written c.args.c.now (coefficients_of c.weights_of-third_weights.result) n p index c.loop-index.third c.four_blocks-sums.result.third
-      c.loop-index.invariant.third_weights room c.four_blocks-sums.ensures.third c.loop-index.invariant.third;
+          next_block_written c.args.c.now (coefficients_of c.weights_of-third_weights.result) n p index c.loop-index.third c.four_blocks-sums.result.third
+          c.loop-index.invariant.third_weights room c.four_blocks-sums.ensures.third c.loop-index.invariant.third;
       fourth_weights = c.loop-index.invariant.fourth_weights;
       fourth =
-      next_block_written c.args.d.now (coefficients_of c.weights_of-fourth_weights.result) n p index c.loop-index.fourth c.four_blocks-sums.result.fourth
-      c.loop-index.invariant.fourth_weights room c.four_blocks-sums.ensures.fourth c.loop-index.invariant.fourth;
+          next_block_written c.args.d.now (coefficients_of c.weights_of-fourth_weights.result) n p index c.loop-index.fourth c.four_blocks-sums.result.fourth
+          c.loop-index.invariant.fourth_weights room c.four_blocks-sums.ensures.fourth c.loop-index.invariant.fourth;
     }

@@ -4,12 +4,10 @@
 
 ghost use Rattle.std.specs.Prelude.{◌≡◌, ◌*◌, IfOk, length};
 
-use std::alloc::AllocError;
-use std::env;
-use std::io;
-use std::time::{Duration, Instant};
-
 use rs_kernel::{encode_piece, mul_add, restore_piece};
+use std::alloc::AllocError;
+use std::time::{Duration, Instant};
+use std::{env, io};
 
 /// The bytes of a piece.
 const SIZE: usize = 65536;
@@ -96,7 +94,13 @@ fn buffer(rt: &HostRuntime, size: usize) -> Result<Vec<u8>, AllocError>
 }
 
 /// Prints what the three calls make.
-fn show(rt: &HostRuntime, pieces: &[u8], piece: &[u8], parity: &mut [u8], out: &mut [u8]) -> io::Result<()>
+fn show(
+    rt: &HostRuntime,
+    pieces: &[u8],
+    piece: &[u8],
+    parity: &mut [u8],
+    out: &mut [u8],
+) -> io::Result<()>
     requires pieces { length pieces.now ≡ 10 * SIZE }
     requires piece { length piece.now ≡ SIZE }
     requires parity { length parity.old ≡ 4 * SIZE }
@@ -111,7 +115,13 @@ fn show(rt: &HostRuntime, pieces: &[u8], piece: &[u8], parity: &mut [u8], out: &
 }
 
 /// Shows what the calls make, and times them once for each word.
-fn run(rt: &HostRuntime, pieces: &[u8], piece: &[u8], parity: &mut [u8], out: &mut [u8]) -> io::Result<()>
+fn run(
+    rt: &HostRuntime,
+    pieces: &[u8],
+    piece: &[u8],
+    parity: &mut [u8],
+    out: &mut [u8],
+) -> io::Result<()>
     requires pieces { length pieces.now ≡ 10 * SIZE }
     requires piece { length piece.now ≡ SIZE }
     requires parity { length parity.old ≡ 4 * SIZE }
@@ -133,5 +143,11 @@ fn main(rt: HostRuntime) -> io::Result<()> {
     let mut out = buffer(&rt, SIZE)?;
     fill(pieces.as_mut_slice());
     fill(piece.as_mut_slice());
-    run(&rt, pieces.as_slice(), piece.as_slice(), parity.as_mut_slice(), out.as_mut_slice())
+    run(
+        &rt,
+        pieces.as_slice(),
+        piece.as_slice(),
+        parity.as_mut_slice(),
+        out.as_mut_slice(),
+    )
 }

@@ -1,6 +1,6 @@
 -- The calls of a record that grows.
 use Rattle.std.proofs.Common.{◌≡◌, ℕ, ◌+◌, ◌<◌, ◌≤◌, ◌==◌, ◌&&◌, nat_lt, nat_le, Bool, true, false, cond, List, [], ◌∷◌, ◌++◌, get_or, Option, Some, None, is_some, MatchBool, Result, Ok, Err, OnOk, OnErr, is_ok, refl, sym, ◌∙◌, ap, subst, arith}
-use Rattle.std.proofs.lemmas.Bool.{and_parts, and_from, cond-true, cond-false, lt-ltb, le-ltb, le-leb, leb-true, eq-eqb, ne_eqb, cond_both}
+use Rattle.std.proofs.lemmas.Bool.{and_parts, and_from, cond-true, cond-false, lt-ltb, ltb-true, le-ltb, le-leb, leb-true, eq-eqb, ne_eqb, cond_both}
 use Rattle.site_model.specs.Disk.{File, Place, Files, Disk, HasFirmFront, appends, syncs, cuts, renames, removes, says}
 use Rattle.site_mem.specs.declared.entry.Entry.{Entry}
 use Rattle.site_mem.specs.declared.stored.Stored.{Stored}
@@ -10,9 +10,9 @@ use Rattle.site_mem.specs.Kept.{files_of, file_of, place_of}
 use Rattle.site_mem.specs.Lost.{has_lost, had_lost, files_without}
 use Rattle.site_mem.specs.Record.{nothing, after_entry, from, disk_of}
 use Rattle.site_mem.specs.Entered.{IsEntered, IsKept}
-use Rattle.site_mem.specs.Calls.{Underway, call_of, at_call, Begins, are_numbered, IsNowhereElse}
+use Rattle.site_mem.specs.Calls.{Underway, call_of, at_call, Begins, are_numbered, are_within, IsNowhereElse}
 use Rattle.site_mem.specs.Effects.{Effect, IsDone}
-use Rattle.site_mem.specs.Counting.{IsWithin}
+use Rattle.site_mem.specs.Counting.{IsWithin, is_within}
 use Rattle.site_mem.proofs.Places.{put_else}
 use Rattle.site_mem.proofs.Recording.{disk_entered, disk_kept}
 use Rattle.site_mem.proofs.Effecting.{effect_done, effect_begun, effect_none, is_done}
@@ -105,6 +105,61 @@ nowhere_after servers (called (renames p q)) files within nowhere k far =
 nowhere_after servers (called (removes p)) files within nowhere k far = else_where servers p k None files within far nowhere
 nowhere_after servers (called (says bytes)) files within nowhere k far = nowhere k far
 
+pub within_is : (servers : ℕ) (event : Event) → is_within servers event ≡ true → IsWithin servers event
+within_is servers (added p bytes) is = ltb-true p.0 servers is
+within_is servers (told bytes) is = tt
+within_is servers (called (appends p bytes)) is = ltb-true p.0 servers is
+within_is servers (called (syncs p)) is = ltb-true p.0 servers is
+within_is servers (called (cuts p n)) is = ltb-true p.0 servers is
+within_is servers (called (renames p q)) is = let both = and_parts _ _ is in (ltb-true p.0 servers both.0, ltb-true q.0 servers both.1)
+within_is servers (called (removes p)) is = ltb-true p.0 servers is
+within_is servers (called (says bytes)) is = tt
+
+is_within_true : (servers : ℕ) (event : Event) → IsWithin servers event → is_within servers event ≡ true
+is_within_true servers (added p bytes) is = lt-ltb p.0 servers is
+is_within_true servers (told bytes) is = refl
+is_within_true servers (called (appends p bytes)) is = lt-ltb p.0 servers is
+is_within_true servers (called (syncs p)) is = lt-ltb p.0 servers is
+is_within_true servers (called (cuts p n)) is = lt-ltb p.0 servers is
+is_within_true servers (called (renames p q)) is = and_from _ _ (lt-ltb p.0 servers is.0) (lt-ltb q.0 servers is.1)
+is_within_true servers (called (removes p)) is = lt-ltb p.0 servers is
+is_within_true servers (called (says bytes)) is = refl
+
+within_push : (servers : ℕ) (entries : List Entry) (e : Entry) → are_within servers entries ≡ true → is_within servers (event_kept e.asked) ≡ true → are_within servers (entries ++ e ∷ []) ≡ true
+within_push servers [] e all last = and_from _ _ last refl
+within_push servers (x ∷ entries) e all last = and_from _ _ (and_parts _ _ all).0 (within_push servers entries e (and_parts _ _ all).1 last)
+
+nowhere_without : (servers : ℕ) (lost : ℕ → Bool) (files : Files) → IsNowhereElse servers files → IsNowhereElse servers (files_without lost files)
+nowhere_without servers lost files nowhere k far = each (lost k.0)
+  where
+    each : (b : Bool) → is_some (cond b None (files k)) ≡ false
+    each true = refl
+    each false = nowhere k far
+
+pub nowhere_entry : (servers : ℕ) (d : Disk) (e : Entry) → is_within servers (event_kept e.asked) ≡ true → IsNowhereElse servers d.files → IsNowhereElse servers (after_entry d e).files
+nowhere_entry servers d e within nowhere = each e.is_done
+  where
+    each : (b : Bool) → IsNowhereElse servers (after b (event_kept e.asked) (record { files = files_without (has_lost e.lost.since) d.files; said = d.said; past = d.past })).files
+    each true = nowhere_after servers (event_kept e.asked) (files_without (has_lost e.lost.since) d.files) (within_is servers (event_kept e.asked) within) (nowhere_without servers (has_lost e.lost.since) d.files nowhere)
+    each false = nowhere_without servers (has_lost e.lost.since) d.files nowhere
+
+nowhere_from : (servers : ℕ) (d : Disk) (entries : List Entry) → are_within servers entries ≡ true → IsNowhereElse servers d.files → IsNowhereElse servers (from d entries).files
+nowhere_from servers d [] within nowhere = nowhere
+nowhere_from servers d (e ∷ entries) within nowhere = nowhere_from servers (after_entry d e) entries (and_parts _ _ within).1 (nowhere_entry servers d e (and_parts _ _ within).0 nowhere)
+
+pub nowhere_else : (servers : ℕ) (entries : List Entry) (since : List ℕ) → are_within servers entries ≡ true → IsNowhereElse servers (disk_of entries since).files
+nowhere_else servers entries since within = nowhere_without servers (has_lost since) (from nothing entries).files (nowhere_from servers nothing entries within (λ k far. refl))
+
+-- the same of what stood as a call was made
+pub nowhere_at : (servers n : ℕ) (d : Disk) (entries : List Entry) (since : List ℕ) → are_within servers entries ≡ true → IsNowhereElse servers d.files → IsNowhereElse servers (at_call n d entries since).files
+nowhere_at servers n d [] since within nowhere = nowhere_without servers (had_lost since n) d.files nowhere
+nowhere_at servers n d (e ∷ entries) since within nowhere = each (nat_lt e.number n) (nowhere_at servers n (after_entry d e) entries since (and_parts _ _ within).1 (nowhere_entry servers d e (and_parts _ _ within).0 nowhere))
+  where
+    each : (b : Bool) → IsNowhereElse servers (at_call n (after_entry d e) entries since).files
+        → IsNowhereElse servers (cond b (at_call n (after_entry d e) entries since) (record { files = files_without (had_lost e.lost.since n) d.files; said = d.said; call = cond (e.number == n) (call_of (event_kept e.asked)) None })).files
+    each true rest = rest
+    each false rest = nowhere_without servers (had_lost e.lost.since n) d.files nowhere
+
 -- One entry more, or none for want of memory.
 pub record Steps (n : ℕ) (b : Bool) (event : Event) (old new : History) (entered : Bool) : Type 0 where
   pub is : MatchBool entered (IsEntered n b event old new) (IsKept old new)
@@ -137,15 +192,10 @@ module _ {n : ℕ} {b : Bool} {event : Event} {old new : History} where
       (sym (disk_entered is.is ∙ ap (λ (c : Bool). after c event (disk_of old.entries.items old.lost.since)) carried))
       (is_done event (disk_of old.entries.items old.lost.since))
 
-  pub nowhere_stepped : (servers : ℕ) (entered : Bool) → Steps n b event old new entered → IsWithin servers event
-      → IsNowhereElse servers (disk_of old.entries.items old.lost.since).files → IsNowhereElse servers (disk_of new.entries.items new.lost.since).files
-  nowhere_stepped servers entered is within nowhere =
-      subst (λ (d : Disk). IsNowhereElse servers d.files) (sym (disk_stepped entered is)) (each entered b)
-    where
-      each : (made carried : Bool) → IsNowhereElse servers (cond made (after carried event (disk_of old.entries.items old.lost.since)) (disk_of old.entries.items old.lost.since)).files
-      each true true = nowhere_after servers event (disk_of old.entries.items old.lost.since).files within nowhere
-      each true false = nowhere
-      each false carried = nowhere
+  pub within_stepped : (servers : ℕ) (entered : Bool) → Steps n b event old new entered → IsWithin servers event → are_within servers old.entries.items ≡ true → are_within servers new.entries.items ≡ true
+  within_stepped servers true is within all =
+      ap (λ (l : List Entry). are_within servers l) is.is.entries ∙ within_push servers old.entries.items is.is.entry all (ap (λ v. is_within servers v) is.is.event ∙ is_within_true servers event within)
+  within_stepped servers false is within all = ap (λ (l : List Entry). are_within servers l) is.is.entries ∙ all
 
   pub numbered_stepped : (calls now : ℕ) (entered : Bool) → Steps n b event old new entered → calls ≤ now → n ≤ now → are_numbered calls old.entries.items ≡ true → are_numbered now new.entries.items ≡ true
   numbered_stepped calls now true is more last numbered =

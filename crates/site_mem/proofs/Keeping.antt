@@ -1,10 +1,10 @@
 -- The files of a list that grows, changes and shrinks.
 use Rattle.std.proofs.Common.{◌≡◌, ◌≢◌, ◌⊎◌, inl, inr, ⊎_elim, ℕ, zero, suc, ◌+◌, ◌<◌, ◌≤◌, not, Bool, true, false, cond, List, [], ◌∷◌, ◌++◌, length, take, get_or, set, Option, Some, None, is_some, refl, sym, ◌∙◌, ap, subst, arith}
-use Rattle.std.specs.List.{remove}
+use Rattle.std.specs.List.{remove, filter}
 use Rattle.std.specs.Str.{bytes_eq}
 use Rattle.std.proofs.lemmas.Slice.Eq.{bytes_eq-Decides}
 use Rattle.std.proofs.lemmas.List.{take_more, take_all}
-use Rattle.std.proofs.lemmas.Bool.{and_parts, and_from, not-true, not_from_false, cond-false}
+use Rattle.std.proofs.lemmas.Bool.{and_parts, and_from, not-true, not_from_false, cond-true, cond-false}
 use Rattle.site_model.specs.Disk.{File, Place, Files}
 use Rattle.site_mem.specs.declared.stored.Stored.{Stored}
 use Rattle.site_mem.specs.Events.{is_place, put_file}
@@ -52,7 +52,7 @@ files_at (s ∷ kept) (suc i) d within apart =
     differ file f a b = cc
 
 -- what stands behind the first file is at another place
-else_than : (s : Stored) (kept : List Stored) (i : ℕ) (d : Stored) → i < length kept → are_apart (s ∷ kept) ≡ true → place_of (get_or kept i d) ≢ place_of s
+pub else_than : (s : Stored) (kept : List Stored) (i : ℕ) (d : Stored) → i < length kept → are_apart (s ∷ kept) ≡ true → place_of (get_or kept i d) ≢ place_of s
 else_than s kept i d within apart e = differ _ _ (files_at kept i d within (apart_rest s kept apart)) (ap (λ q. files_of kept q) e ∙ apart_none s kept apart)
   where
     differ : (file : Option File) (f : File) → file ≡ Some f → file ≡ None → ⊥
@@ -260,3 +260,43 @@ other_name server old new differ e = clash (bytes_eq old new) differ ((bytes_eq-
   where
     clash : (b : Bool) → true ≡ not b → b ≡ true → ⊥
     clash b differ is = cc (ap not is)
+
+-- the files at places that don't pass the test
+abbrev pub outside : (Place → Bool) → List Stored → List Stored
+outside test kept = filter (λ s. not (test (place_of s))) kept
+
+pub files_outside : (test : Place → Bool) (kept : List Stored) (k : Place) → files_of (outside test kept) k ≡ cond (test k) None (files_of kept k)
+files_outside test [] k = each (test k)
+  where
+    each : (b : Bool) → ◌≡◌ {A = Option File} None (cond b None None)
+    each true = refl
+    each false = refl
+files_outside test (s ∷ kept) k = each (test (place_of s)) refl (files_outside test kept k)
+  where
+    each : (b : Bool) → test (place_of s) ≡ b → files_of (outside test kept) k ≡ cond (test k) None (files_of kept k)
+        → files_of (cond (not b) (s ∷ outside test kept) (outside test kept)) k ≡ cond (test k) None (files_of (s ∷ kept) k)
+    each true is rest = rest ∙ by_place (place_of s) k
+        (λ e. cond-true (test k) None (files_of kept k) (ap test e ∙ is) ∙ sym (cond-true (test k) None (files_of (s ∷ kept) k) (ap test e ∙ is)))
+        (λ ne off. ap (λ f. cond (test k) None f) (sym (behind s kept k ne)))
+    each false is rest = by_place (place_of s) k
+        (λ e. ap (λ q. files_of (s ∷ outside test kept) q) e ∙ at_first s (outside test kept) ∙ sym (cond-false (test k) None (files_of (s ∷ kept) k) (ap test e ∙ is) ∙ ap (λ q. files_of (s ∷ kept) q) e ∙ at_first s kept))
+        (λ ne off. behind s (outside test kept) k ne ∙ rest ∙ ap (λ f. cond (test k) None f) (sym (behind s kept k ne)))
+
+pub apart_outside : (test : Place → Bool) (kept : List Stored) → are_apart kept ≡ true → are_apart (outside test kept) ≡ true
+apart_outside test [] apart = refl
+apart_outside test (s ∷ kept) apart = each (test (place_of s)) (apart_outside test kept (apart_rest s kept apart))
+  where
+    nothing_there : (b : Bool) → cond b None (files_of kept (place_of s)) ≡ None
+    nothing_there true = refl
+    nothing_there false = apart_none s kept apart
+
+    each : (b : Bool) → are_apart (outside test kept) ≡ true → are_apart (cond (not b) (s ∷ outside test kept) (outside test kept)) ≡ true
+    each true rest = rest
+    each false rest = apart_cons s (outside test kept) (files_outside test kept (place_of s) ∙ nothing_there (test (place_of s))) rest
+
+-- the same, as a list that was filtered by another name of the test
+pub files_lost : (lost : ℕ → Bool) (kept now : List Stored) → now ≡ filter (λ s. not (lost s.server)) kept → files_of now ≡ (λ k. cond (lost k.0) None (files_of kept k))
+files_lost lost kept now is = λ i k. (ap (λ l. files_of l k) is ∙ files_outside (λ p. lost p.0) kept k) i
+
+pub apart_lost : (lost : ℕ → Bool) (kept now : List Stored) → now ≡ filter (λ s. not (lost s.server)) kept → are_apart kept ≡ true → are_apart now ≡ true
+apart_lost lost kept now is apart = ap are_apart is ∙ apart_outside (λ p. lost p.0) kept apart

@@ -7,3 +7,7 @@ pub mod Calling
 pub mod Making
 pub mod Naming
 pub mod Seeing
+pub mod Losing
+pub mod Replaying
+pub mod Tearing
+pub mod Leaving

@@ -1,6 +1,7 @@
 -- What a call of a site in memory leaves.
 use Rattle.std.proofs.Common.{◌≡◌, ◌⊎◌, inl, inr, ℕ, ◌+◌, ◌-◌, ◌^◌, ◌≤◌, ◌&&◌, ◌||◌, not, min, Bool, true, false, IsTrue, cond, None, get_or, refl, sym, ◌∙◌, ap, subst, arith}
 use Rattle.std.specs.Int.{from_bool}
+use Rattle.site_mem.specs.Held.{disk_held, call_held}
 use Rattle.site_mem.specs.declared.mem.MemSite.{MemSite}
 use Rattle.site_mem.specs.declared.history.History.{History}
 use Rattle.site_mem.specs.declared.listed.Listed.{Listed}
@@ -19,6 +20,7 @@ keeps_listed old new same = record {
 
 -- nothing is asked
 pub looks : (failed : Bool) (old new : MemSite) → new.history ≡ old.history → new.listed ≡ old.listed → new.wants ≡ old.wants → new.tally.calls ≡ next_at old → Looks failed old new (IsTrue failed)
+unfolding disk_held call_held
 looks failed old new same listed wants calls = record {
   calls = calls;
   listed = λ on. on;
@@ -40,6 +42,7 @@ module _ (event : Event) (old new : MemSite) (number : ℕ) (listed made entered
 
   pub makes : (failed : Bool) (wanting : ℕ) → failed ≡ (listed || not made) → new.listed ≡ old.listed → wants_at old ≤ 2 ^ 64 - 1 → wanting ≡ from_bool (not listed && not made) → new.wants ≡ min (old.wants + wanting) (2 ^ 64 - 1) → new.tally.calls ≡ next_at old
       → Makes event old new failed
+  unfolding disk_held call_held
   makes failed wanting fails same fits more wants calls = record {
     calls = calls;
     listed = λ on. fails ∙ ap (λ b. b || not made) (is_listed ∙ on);

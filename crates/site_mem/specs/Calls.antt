@@ -3,6 +3,7 @@ use Rattle.std.specs.Prelude.{◌≡◌, ℕ, ◌==◌, ◌&&◌, nat_lt, nat_le
 use Rattle.site_model.specs.Disk.{Place, Files, Call, Disk}
 use Rattle.site_mem.specs.declared.entry.Entry.{Entry}
 use Rattle.site_mem.specs.Events.{Event, event_kept, added, told, called}
+use Rattle.site_mem.specs.Counting.{is_within}
 use Rattle.site_mem.specs.Lost.{had_lost, files_without}
 use Rattle.site_mem.specs.Record.{after_entry, AreSame}
 
@@ -34,6 +35,11 @@ pub record Begins (d : Disk) (call : Option Call) (under_way : Underway) : Type 
 abbrev pub are_numbered : ℕ → List Entry → Bool
 are_numbered n [] = true
 are_numbered n (e ∷ entries) = nat_le e.number n && are_numbered n entries
+
+-- each names servers below this number alone
+abbrev pub are_within : ℕ → List Entry → Bool
+are_within servers [] = true
+are_within servers (e ∷ entries) = is_within servers (event_kept e.asked) && are_within servers entries
 
 -- no file stands at a server from this number on
 abbrev pub IsNowhereElse : ℕ → Files → Type 0

@@ -1,5 +1,5 @@
 -- The counts of a site in memory.
-use Rattle.std.specs.Prelude.{◌≡◌, ℕ, ◌+◌, ◌-◌, ◌^◌, ◌<◌, min, length, slice_index}
+use Rattle.std.specs.Prelude.{◌≡◌, ℕ, ◌+◌, ◌-◌, ◌^◌, ◌<◌, nat_lt, ◌&&◌, Bool, true, min, length, slice_index}
 use Rattle.site_model.specs.Counts.{Counts, CountsWrite, CountsSay}
 use Rattle.site_model.specs.Disk.{appends, syncs, cuts, renames, removes, says}
 use Rattle.site_mem.specs.declared.tally.Tally.{Tally}
@@ -22,6 +22,16 @@ IsWithin servers (called (cuts p n)) = p.0 < servers
 IsWithin servers (called (renames p q)) = (p.0 < servers) × (q.0 < servers)
 IsWithin servers (called (removes p)) = p.0 < servers
 IsWithin servers (called (says bytes)) = Unit {0}
+
+abbrev pub is_within : ℕ → Event → Bool
+is_within servers (added p bytes) = nat_lt p.0 servers
+is_within servers (told bytes) = true
+is_within servers (called (appends p bytes)) = nat_lt p.0 servers
+is_within servers (called (syncs p)) = nat_lt p.0 servers
+is_within servers (called (cuts p n)) = nat_lt p.0 servers
+is_within servers (called (renames p q)) = nat_lt p.0 servers && nat_lt q.0 servers
+is_within servers (called (removes p)) = nat_lt p.0 servers
+is_within servers (called (says bytes)) = true
 
 abbrev pub IsCall : Event → Type 0
 IsCall (added p bytes) = ⊥

@@ -10,3 +10,7 @@ pub mod Calls
 pub mod Site
 pub mod Fits
 pub mod Source
+pub mod Torn
+pub mod Replayed
+pub mod Asking
+pub mod Held

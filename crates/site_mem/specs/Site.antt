@@ -4,14 +4,15 @@ use Rattle.site_model.specs.Disk.{Disk}
 use Rattle.site_model.specs.Counts.{Counts}
 use Rattle.site_mem.specs.declared.mem.MemSite.{MemSite}
 use Rattle.site_mem.specs.Events.{Event}
-use Rattle.site_mem.specs.Record.{nothing, disk_of}
-use Rattle.site_mem.specs.Calls.{Underway, at_call, call_of, Begins}
+use Rattle.site_mem.specs.Record.{nothing}
+use Rattle.site_mem.specs.Held.{disk_held, call_held}
+use Rattle.site_mem.specs.Calls.{Underway, call_of, Begins}
 use Rattle.site_mem.specs.Counting.{counts_of, next_call, AreNone}
 use Rattle.site_mem.specs.Failing.{lists, lists_read}
 
 -- the files, what was said, and the calls so far
 abbrev pub disk_at : MemSite → Disk
-disk_at m = disk_of m.history.entries.items m.history.lost.since
+disk_at m = disk_held m.history
 
 abbrev pub counts_at : MemSite → Counts
 counts_at m = counts_of m.tally
@@ -34,7 +35,7 @@ reads_fail_at m server = slice_index_or m.listed.reads server None
 
 -- what stood as the call with this number was made
 abbrev pub call_at : MemSite → ℕ → Underway
-call_at m number = at_call number nothing m.history.entries.items m.history.lost.since
+call_at m number = call_held m.history number
 
 -- what is to fail stays listed
 pub record KeepsListed (old new : MemSite) : Type 0 where
@@ -85,11 +86,20 @@ pub record KeepsAll (old new : MemSite) : Type 0 where
   pub counts : KeepsCounts old new
   pub calls : (number : ℕ) → call_at new number ≡ call_at old number
 
--- no file, nothing said, no call made and none listed
-pub record IsFresh (servers : ℕ) (m : MemSite) : Type 0 where
+-- no call was made and none is listed
+pub record IsUnused (servers : ℕ) (m : MemSite) : Type 0 where
   pub servers_are : m.servers ≡ servers
-  pub disk : disk_at m ≡ nothing
   pub counts : AreNone (counts_at m)
   pub wants : wants_at m ≡ 0
   pub fails : (number : ℕ) → fails_at m number ≡ false
   pub reads_fail : (server : ℕ) → reads_fail_at m server ≡ None
+
+-- nothing is called or listed
+pub record KeepsUnused (old new : MemSite) : Type 0 where
+  pub counts : KeepsCounts old new
+  pub listed : KeepsListed old new
+
+-- no file, nothing said, no call made and none listed
+pub record IsFresh (servers : ℕ) (m : MemSite) : Type 0 where
+  pub disk : disk_at m ≡ nothing
+  pub unused : IsUnused servers m

@@ -2,8 +2,10 @@
 ghost use Rattle.std.specs.Prelude.{IsTrue};
 ghost use Rattle.site_mem.specs.Kept.{are_apart};
 
-use crate::asked::{Asked, Request};
+use crate::asked::{Asked, Recorded, Request, request_of};
+use crate::losses::Losses;
 use crate::stored::Stored;
+use crate::tear::Tear;
 use std::alloc::{AllocError, Global};
 
 /// What stands, in place: each file once, and what was said.
@@ -15,9 +17,12 @@ pub struct Contents {
 }
 
 impl Contents {
-    ghost use Rattle.std.specs.Prelude.{◌≡◌, if◌then◌else◌, map, string_bytes, MatchOption, IfOk, OnOk, OnErr, Some, None, []};
+    ghost use Rattle.std.specs.Prelude.{◌≡◌, ◌++◌, if◌then◌else◌, map, string_bytes, MatchOption, IfOk, OnOk, OnErr, Some, None, []};
     ghost use Rattle.site_model.specs.Disk.{grown, synced, cut_to, firm_file};
     ghost use Rattle.site_mem.specs.Events.{event_now, files_after, said_after, put_file};
+    ghost use Rattle.site_mem.specs.Torn.{files_reached, said_reached, said_part};
+    ghost use Rattle.site_mem.specs.Asking.{call_asked};
+    ghost use Rattle.site_mem.specs.Lost.{has_lost, had_lost, files_without};
     ghost use Rattle.site_mem.specs.Kept.{files_of, file_of, place_of, IsAt, MakesRoom, found, names_at};
 
     pub fn new(alloc: Global) -> Self
@@ -218,5 +223,60 @@ impl Contents {
             file.add_name(alloc, server, &mut names)?;
         }
         Ok(names)
+    }
+
+    /// The files at the servers that lost theirs are gone.
+    pub fn lose(&mut self, losses: &Losses)
+        ensures files { files_of self.new.files.items ≡ files_without (has_lost losses.now.since) (files_of self.old.files.items) }
+        ensures said { self.new.said.items ≡ self.old.said.items }
+    {
+        self.files.retain(|file| !losses.has_lost(file.server));
+    }
+
+    /// The files at the servers that had lost theirs before the call with this number are gone.
+    pub fn lose_by(&mut self, losses: &Losses, number: u64)
+        ensures files { files_of self.new.files.items ≡ files_without (had_lost losses.now.since number) (files_of self.old.files.items) }
+        ensures said { self.new.said.items ≡ self.old.said.items }
+    {
+        self.files
+            .retain(|file| !losses.had_lost(file.server, number));
+    }
+
+    /// Does as much of a call as a stop within it finds done.
+    pub fn reach(
+        &mut self,
+        alloc: Global,
+        asked: Option<&Recorded>,
+        tear: Tear,
+    ) -> Result<(), AllocError>
+        ensures files { OnOk result (files_of self.new.files.items ≡ files_reached tear (call_asked asked.entry) (files_of self.old.files.items)) }
+        ensures said { OnOk result (self.new.said.items ≡ said_reached tear (call_asked asked.entry) self.old.said.items) }
+    {
+        let Some(asked) = asked else {
+            return Ok(());
+        };
+        match asked {
+            Asked::Say { bytes } => self.say_part(bytes, tear),
+            Asked::Add { .. } => Ok(()),
+            Asked::Tell { .. } => Ok(()),
+            Asked::Sync { .. } => Ok(()),
+            asked => match tear {
+                Tear::None => Ok(()),
+                _ => self.carry_out(alloc, &request_of(asked)),
+            },
+        }
+    }
+
+    // Says as much of some bytes as a stop finds said.
+    fn say_part(&mut self, bytes: &[u8], tear: Tear) -> Result<(), AllocError>
+        ensures files { files_of self.new.files.items ≡ files_of self.old.files.items }
+        ensures said { OnOk result (self.new.said.items ≡ self.old.said.items ++ said_part tear bytes.now) }
+    {
+        match tear {
+            Tear::None => Ok(()),
+            Tear::All => self.said.extend_from_slice(bytes),
+            Tear::Half => self.said.extend_from_slice(&bytes[..bytes.len() / 2]),
+            Tear::Fill(_) => self.said.extend_from_slice(bytes),
+        }
     }
 }

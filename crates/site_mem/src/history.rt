@@ -1,9 +1,10 @@
 // A record of all that was asked, and what stands by it.
-ghost use Rattle.std.specs.Prelude.{◌≡◌};
+ghost use Rattle.std.specs.Prelude.{◌≡◌, OnOk};
+ghost use Rattle.site_mem.specs.Replayed.{Replays};
 ghost use Rattle.site_mem.specs.Kept.{files_of};
 ghost use Rattle.site_mem.specs.Record.{disk_of, AreSame, AreSame-prop};
 
-use crate::asked::{Request, recorded};
+use crate::asked::{Recorded, Request, recorded, request_of};
 use crate::contents::Contents;
 use crate::entry::Entry;
 use crate::losses::Losses;
@@ -21,10 +22,14 @@ pub struct History {
 }
 
 impl History {
-    ghost use Rattle.std.specs.Prelude.{◌≡◌, IfOk, OnOk, OnErr, [], ℕ, slice_index};
+    ghost use Rattle.std.specs.Prelude.{◌≡◌, IfOk, OnOk, OnErr, ◌<◌, [], ℕ, slice_index};
     ghost use Rattle.site_mem.specs.Events.{event_now};
     ghost use Rattle.site_mem.specs.Record.{nothing, disk_of};
+    ghost use Rattle.site_mem.specs.Calls.{at_call};
     ghost use Rattle.site_mem.specs.Entered.{IsEntered, IsKept};
+    ghost use Rattle.site_mem.specs.Lost.{Loses};
+    ghost use Rattle.site_mem.specs.Replayed.{IsContentsAt};
+    ghost use Rattle.site_mem.specs.Asking.{call_asked};
 
     pub fn new(alloc: Global) -> Self
         ensures entries { result.entries.items ≡ [] }
@@ -61,4 +66,55 @@ impl History {
         self.lost = Losses::none();
         Ok(())
     }
+
+    /// The server's files are lost, before the call with this number.
+    pub fn lose(&mut self, server: u32, number: u64)
+        requires server { server < 64 }
+        requires number { 0 < number }
+        ensures entries { self.new.entries.items ≡ self.old.entries.items }
+        ensures lost { Loses server number self.old.lost.since self.new.lost.since }
+    {
+        self.lost.add(server, number);
+        self.contents.lose(&self.lost);
+    }
+
+    /// What stood and had been said as the call with this number was made.
+    pub fn contents_at(&self, alloc: Global, number: u64) -> Result<Contents, AllocError>
+        ensures { IfOk result (IsContentsAt (at_call number nothing self.now.entries.items self.now.lost.since)) }
+    {
+        let mut contents = Contents::new(alloc);
+        for entry in &self.entries {
+            if number <= entry.number {
+                contents.lose_by(&entry.lost, number);
+                return Ok(contents);
+            }
+            replay(alloc, &mut contents, entry)?;
+        }
+        contents.lose_by(&self.lost, number);
+        Ok(contents)
+    }
+
+    /// The call with this number, if it is recorded.
+    pub fn asked_at(&self, number: u64) -> Option<&Recorded>
+        ensures { call_asked result ≡ (at_call number nothing self.now.entries.items self.now.lost.since).call }
+    {
+        for entry in &self.entries {
+            if number <= entry.number {
+                return if number == entry.number {
+                    Some(&entry.asked)
+                } else {
+                    None
+                };
+            }
+        }
+        None
+    }
+}
+
+// What an entry makes of what stood before it.
+fn replay(alloc: Global, contents: &mut Contents, entry: &Entry) -> Result<(), AllocError>
+    ensures { OnOk result (Replays entry.now contents.old contents.new) }
+{
+    contents.lose(&entry.lost);
+    contents.try_out(alloc, &request_of(&entry.asked), entry.is_done)
 }

@@ -12,10 +12,12 @@ mod mem;
 mod source;
 mod stored;
 mod tally;
+mod tear;
 
 pub use clock::FixedClock;
 pub use mem::MemSite;
 pub use source::MemSource;
+pub use tear::Tear;
 
 #[cfg(test)]
 mod tests;

@@ -30,18 +30,21 @@ impl Losses {
 
     /// Whether the server's files were lost.
     pub fn has_lost(&self, server: u32) -> bool
-        requires { server < 64 }
         ensures { result ≡ has_lost self.now.since server }
     {
-        0 < self.since[server as usize]
+        match self.since.get(server as usize) {
+            Some(since) => 0 < *since,
+            None => false,
+        }
     }
 
     /// Whether the call with this number found the server's files lost.
     pub fn had_lost(&self, server: u32, number: u64) -> bool
-        requires { server < 64 }
         ensures { result ≡ had_lost self.now.since number server }
     {
-        let since = self.since[server as usize];
-        0 < since && since <= number
+        match self.since.get(server as usize) {
+            Some(since) => 0 < *since && *since <= number,
+            None => false,
+        }
     }
 }

@@ -1,12 +1,13 @@
 // A site in memory.
 ghost use Rattle.std.specs.Prelude.{◌≡◌, ◌+◌, ◌<◌, ◌≤◌, ℕ, IsTrue, slice_index};
-ghost use Rattle.site_mem.specs.Record.{disk_of};
-ghost use Rattle.site_mem.specs.Calls.{are_numbered, IsNowhereElse};
+ghost use Rattle.site_mem.specs.Calls.{are_numbered, are_within};
 
 use crate::asked::{Asked, Request};
 use crate::history::History;
 use crate::listed::Listed;
+use crate::stored::Stored;
 use crate::tally::Tally;
+use crate::tear::Tear;
 use site_model::{Failed, Site, SiteError};
 use std::alloc::{AllocError, Global};
 
@@ -24,7 +25,7 @@ pub struct MemSite {
     ghost few: { servers ≤ 64 },
     ghost numbered: { IsTrue (are_numbered tally.calls history.entries.items) },
     ghost since: { (server : ℕ) → slice_index history.lost.since server ≤ tally.calls + 1 },
-    ghost nowhere_else: { IsNowhereElse servers (disk_of history.entries.items history.lost.since).files },
+    ghost within: { IsTrue (are_within servers history.entries.items) },
 }
 
 impl MemSite {
@@ -99,14 +100,16 @@ impl MemSite {
 }
 
 impl MemSite {
-    ghost use Rattle.std.specs.Prelude.{◌≡◌, ◌≢◌, ◌<◌, ◌≤◌, ◌||◌, ◌==◌, ℕ, [], Some, None, IfOk, OnOk, OnErr, min};
-    ghost use Rattle.site_model.specs.Disk.{standing, firm_file};
-    ghost use Rattle.site_mem.specs.Events.{added, done};
-    ghost use Rattle.site_mem.specs.Kept.{seen};
+    ghost use Rattle.std.specs.Prelude.{◌≡◌, ◌≢◌, ◌<◌, ◌≤◌, ◌||◌, ◌==◌, if◌then◌else◌, ℕ, [], Some, None, IfOk, OnOk, OnErr, min};
+    ghost use Rattle.site_model.specs.Disk.{Place, standing};
+    ghost use Rattle.site_mem.specs.Events.{added, told, done, put_file};
+    ghost use Rattle.site_mem.specs.Kept.{seen, place_of, file_of};
+    ghost use Rattle.site_mem.specs.Torn.{IsTorn, IsLeftBy, torn_file, firm_of};
     ghost use Rattle.site_mem.specs.Failing.{lower};
-    ghost use Rattle.site_mem.specs.Site.{disk_at, counts_at, wants_at, fails_at, reads_fail_at, IsFresh, KeepsAll, KeepsListed, KeepsCounts, KeepsCalls};
+    ghost use Rattle.site_mem.specs.Site.{disk_at, counts_at, wants_at, fails_at, reads_fail_at, call_at, IsFresh, IsUnused, KeepsUnused, KeepsAll, KeepsListed, KeepsCounts, KeepsCalls};
 
     /// A site of so many servers, with no file, nothing said, no call made and none listed.
+    #[tactic(auto, unfolding(crate::specs::Held::disk_held))]
     pub fn new(alloc: Global, servers: u32) -> Result<MemSite, AllocError>
         requires some { 0 < servers }
         requires few { servers ≤ 64 }
@@ -160,7 +163,68 @@ impl MemSite {
         self.listed.add_reads(server, from);
     }
 
+    /// The server's files are gone.
+    pub fn lose(&mut self, server: u32)
+        requires { server < self.old.servers }
+        ensures files { (k : Place) → (disk_at self.new).files k ≡ (if k.0 == server then None else (disk_at self.old).files k) }
+        ensures said { (disk_at self.new).said ≡ (disk_at self.old).said }
+        ensures past { (disk_at self.new).past ≡ (disk_at self.old).past }
+        ensures kept { KeepsCounts self.old self.new }
+        ensures listed { KeepsListed self.old self.new }
+        ensures calls { KeepsCalls self.old self.new }
+    {
+        self.history.lose(server, self.tally.next());
+    }
+
+    /// The site that a stop within this call leaves: all of it firm, with no call made and none listed.
+    ///
+    /// The tear says what stays of the bytes that weren't firm. With `Tear::None` nothing of the call happened
+    /// either; with another one an append, a cut, a rename or a remove did. Of what is said in the call nothing
+    /// was said with `Tear::None`, the first half with `Tear::Half`, and else the whole.
+    pub fn left(&self, alloc: Global, call: u64, tear: Tear) -> Result<MemSite, AllocError>
+        requires some { 0 < call }
+        requires made { call ≤ (counts_at self.now).calls }
+        ensures torn { IfOk result (λ m. IsTorn tear (call_at self.now call) (disk_at m)) }
+        ensures left { IfOk result (λ m. IsLeftBy (call_at self.now call) (disk_at m)) }
+        ensures unused { IfOk result (IsUnused self.now.servers) }
+    {
+        let mut contents = self.history.contents_at(alloc, call)?;
+        contents.reach(alloc, self.history.asked_at(call), tear)?;
+        let mut site = MemSite::new(alloc, self.servers)?;
+        site.tell(&contents.said)?;
+        for file in &contents.files {
+            site.add_torn(alloc, file, tear)?;
+        }
+        Ok(site)
+    }
+
+    // Something that was said, before the first call.
+    fn tell(&mut self, bytes: &[u8]) -> Result<(), AllocError>
+        ensures ok { OnOk result (disk_at self.new ≡ done (told bytes.now) (disk_at self.old)) }
+        ensures unused { OnOk result (KeepsUnused self.old self.new) }
+    {
+        self.history
+            .enter(self.alloc, 0, &Asked::Tell { bytes }, true)
+    }
+
+    // What a stop leaves of a file, before the first call.
+    fn add_torn(&mut self, alloc: Global, file: &Stored, tear: Tear) -> Result<(), AllocError>
+        requires server { file.now.server < self.old.servers }
+        requires none_made { (counts_at self.old).calls ≡ 0 }
+        requires absent { (disk_at self.old).files (place_of file.now) ≡ None }
+        ensures files { OnOk result ((disk_at self.new).files ≡ put_file (place_of file.now) (firm_of (torn_file tear (file_of file.now))) (disk_at self.old).files) }
+        ensures said { OnOk result ((disk_at self.new).said ≡ (disk_at self.old).said) }
+        ensures past { OnOk result ((disk_at self.new).past ≡ (disk_at self.old).past) }
+        ensures unused { OnOk result (KeepsUnused self.old self.new) }
+    {
+        match file.torn(alloc, tear)? {
+            Some(bytes) => self.add_file(file.server, file.name.as_str(), &bytes),
+            None => Ok(()),
+        }
+    }
+
     /// The bytes of a file that stands.
+    #[tactic(auto, unfolding(crate::specs::Held::disk_held))]
     pub fn file(&self, server: u32, name: &str) -> Option<&[u8]>
         ensures { seen result ≡ standing ((disk_at self.now).files (server, name.now)) }
     {
@@ -171,6 +235,7 @@ impl MemSite {
     }
 
     /// All that was said.
+    #[tactic(auto, unfolding(crate::specs::Held::disk_held))]
     pub fn said(&self) -> &[u8]
         ensures { result.now ≡ (disk_at self.now).said }
     {

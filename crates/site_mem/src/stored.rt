@@ -1,6 +1,7 @@
 // One file.
 ghost use Rattle.std.specs.Prelude.{◌≤◌, length};
 
+use crate::tear::Tear;
 use std::alloc::{AllocError, Global};
 
 /// A file at a server, of which the first bytes are firm.
@@ -17,10 +18,11 @@ pub struct Stored {
 }
 
 impl Stored {
-    ghost use Rattle.std.specs.Prelude.{◌≡◌, ◌++◌, ◌∷◌, [], map, Some, OnOk, OnErr, string_bytes};
+    ghost use Rattle.std.specs.Prelude.{◌≡◌, ◌++◌, ◌∷◌, [], map, Some, IfOk, OnOk, OnErr, string_bytes};
     ghost use Rattle.site_model.specs.Disk.{grown, synced, cut_to};
     ghost use Rattle.site_mem.specs.Events.{is_place};
     ghost use Rattle.site_mem.specs.Kept.{file_of, place_of, names_at};
+    ghost use Rattle.site_mem.specs.Torn.{torn_file, bytes_left};
 
     /// Whether it is the file of this name at this server.
     pub fn is_at(&self, server: u32, name: &str) -> bool
@@ -79,5 +81,28 @@ impl Stored {
             names.push(self.name.as_str().to_string(alloc)?)?;
         }
         Ok(())
+    }
+
+    /// The bytes that a stop leaves, if it leaves the file.
+    pub fn torn(&self, alloc: Global, tear: Tear) -> Result<Option<Vec<u8>>, AllocError>
+        ensures { IfOk result (λ left. bytes_left left ≡ torn_file tear (file_of self.now)) }
+    {
+        let firm = &self.bytes[..self.firm];
+        let pending = self.bytes.len() - self.firm;
+        match tear {
+            Tear::None => {
+                if !self.is_named {
+                    return Ok(None);
+                }
+                Ok(Some(firm.to_vec(alloc)?))
+            }
+            Tear::All => Ok(Some(self.bytes.as_slice().to_vec(alloc)?)),
+            Tear::Half => Ok(Some(self.bytes[..self.firm + pending / 2].to_vec(alloc)?)),
+            Tear::Fill(value) => {
+                let mut bytes = firm.to_vec(alloc)?;
+                bytes.resize(self.bytes.len(), value)?;
+                Ok(Some(bytes))
+            }
+        }
     }
 }

@@ -1,5 +1,8 @@
 // The outside in memory, run.
-use crate::{FixedClock, MemSite, MemSource};
+ghost use Rattle.std.specs.Prelude.{◌<◌, ◌≤◌};
+ghost use Rattle.site_mem.specs.Site.{counts_at};
+
+use crate::{FixedClock, MemSite, MemSource, Tear};
 use site_model::{Clock, Failed, Site, Source};
 use std::alloc::Global;
 use std::process::Abort;
@@ -87,4 +90,81 @@ fn a_fixed_clock_stands_still(rt: HostRuntime) {
     let mut clock = FixedClock { now: 7 };
     assert_eq!(rt; clock.now(), 7);
     assert_eq!(rt; clock.now(), 7);
+}
+
+// What a stop within the call leaves of the file, and what had been said by then.
+fn see_left(
+    rt: &impl Abort,
+    alloc: Global,
+    site: &MemSite,
+    call: u64,
+    tear: Tear,
+    name: &str,
+    bytes: Option<&[u8]>,
+    said: &[u8],
+) -> Result<(), Fail>
+    requires some { 0 < call }
+    requires made { call ≤ (counts_at site.now).calls }
+{
+    let left = site.left(alloc, call, tear)?;
+    assert_eq!(rt; left.file(0, name), bytes);
+    assert_eq!(rt; left.said(), said);
+    assert_eq!(rt; left.calls(), 0);
+    Ok(())
+}
+
+#[test]
+fn a_stop_leaves_what_the_tear_says(rt: HostRuntime) -> Result<(), Fail> {
+    let alloc = rt.alloc();
+    let mut site = MemSite::new(alloc, 1)?;
+    site.append(0, "a", b"base")?;
+    site.sync(0, "a")?;
+    site.append(0, "a", b"12345")?;
+    site.sync(0, "a")?;
+    assert_eq!(rt; site.calls(), 4);
+    see_left(&rt, alloc, &site, 1, Tear::None, "a", None, b"")?;
+    see_left(&rt, alloc, &site, 1, Tear::All, "a", Some(b"base"), b"")?;
+    see_left(&rt, alloc, &site, 3, Tear::None, "a", Some(b"base"), b"")?;
+    see_left(&rt, alloc, &site, 3, Tear::Half, "a", Some(b"base12"), b"")?;
+    see_left(
+        &rt,
+        alloc,
+        &site,
+        3,
+        Tear::All,
+        "a",
+        Some(b"base12345"),
+        b"",
+    )?;
+    see_left(
+        &rt,
+        alloc,
+        &site,
+        3,
+        Tear::Fill(b'x'),
+        "a",
+        Some(b"basexxxxx"),
+        b"",
+    )?;
+    see_left(&rt, alloc, &site, 4, Tear::Half, "a", Some(b"base12"), b"")?;
+    Ok(())
+}
+
+#[test]
+fn a_stop_leaves_a_rename_or_not_and_a_part_of_what_is_said(rt: HostRuntime) -> Result<(), Fail> {
+    let alloc = rt.alloc();
+    let mut site = MemSite::new(alloc, 1)?;
+    site.add_file(0, "a", b"old")?;
+    site.rename(0, "a", "b")?;
+    site.say(b"abcde")?;
+    site.lose(0);
+    assert_eq!(rt; site.file(0, "b"), None);
+    assert_eq!(rt; site.calls(), 2);
+    see_left(&rt, alloc, &site, 1, Tear::None, "a", Some(b"old"), b"")?;
+    see_left(&rt, alloc, &site, 1, Tear::Half, "a", None, b"")?;
+    see_left(&rt, alloc, &site, 1, Tear::Half, "b", Some(b"old"), b"")?;
+    see_left(&rt, alloc, &site, 2, Tear::None, "b", Some(b"old"), b"")?;
+    see_left(&rt, alloc, &site, 2, Tear::Half, "b", Some(b"old"), b"ab")?;
+    see_left(&rt, alloc, &site, 2, Tear::All, "b", Some(b"old"), b"abcde")?;
+    Ok(())
 }

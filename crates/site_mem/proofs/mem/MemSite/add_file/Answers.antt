@@ -1,7 +1,8 @@
 use Rattle.std.proofs.Common.{arith}
-use Rattle.std.proofs.lemmas.Result.{on_ok_weaker}
-use Rattle.site_mem.proofs.Recording.{disk_entered}
-use Rattle.site_mem.proofs.Calling.{steps_from, numbered_stepped, since_stepped, nowhere_stepped}
+use Rattle.std.proofs.lemmas.Result.{on_ok_weaker, on_err_weaker}
+use Rattle.site_mem.specs.Held.{disk_held, call_held}
+use Rattle.site_mem.proofs.Recording.{disk_entered, disk_kept}
+use Rattle.site_mem.proofs.Calling.{steps_from, numbered_stepped, since_stepped, within_stepped}
 use Rattle.site_mem.proofs.mem.MemSite.add_file.Goals as goal
 
 pub invariant_of-self : goal.invariant_of-self
@@ -13,8 +14,13 @@ invariant_of-self c =
       few = old.few;
       numbered = numbered_stepped old.tally.calls old.tally.calls _ steps (omega arith) (omega arith) old.numbered;
       since = since_stepped old.tally.calls old.tally.calls _ steps (omega arith) old.since;
-      nowhere_else = nowhere_stepped old.servers _ steps c.requires.server old.nowhere_else;
+      within = within_stepped old.servers _ steps c.requires.server old.within;
     }
 
 pub returns-clause-ok : goal.returns-clause-ok
+unfolding disk_held call_held
 returns-clause-ok c = on_ok_weaker c.enter.result (λ is. disk_entered is) c.enter.ensures.ok
+
+pub returns-clause-err : goal.returns-clause-err
+unfolding disk_held
+returns-clause-err c = on_err_weaker c.enter.result (λ is. disk_kept is) c.enter.ensures.err

@@ -1,5 +1,6 @@
 use Rattle.std.proofs.Common.{◌≤◌, ◌∙◌, refl, sym, arith}
-use Rattle.site_mem.proofs.Calling.{steps_from, effect_stepped, done_stepped, numbered_stepped, since_stepped, nowhere_stepped}
+use Rattle.site_mem.specs.Held.{disk_held, call_held}
+use Rattle.site_mem.proofs.Calling.{steps_from, effect_stepped, done_stepped, numbered_stepped, since_stepped, within_stepped}
 use Rattle.site_mem.proofs.Making.{makes, carried}
 use Rattle.site_mem.proofs.mem.MemSite.make.Goals as goal
 
@@ -13,10 +14,11 @@ invariant_of-self c =
       few = old.few;
       numbered = numbered_stepped old.tally.calls c.count.new.self.calls _ steps more (omega (arith, c.count.ensures.calls, c.next-number.ensures.number)) old.numbered;
       since = since_stepped old.tally.calls c.count.new.self.calls _ steps more old.since;
-      nowhere_else = nowhere_stepped old.servers _ steps c.requires.within old.nowhere_else;
+      within = within_stepped old.servers _ steps c.requires.within old.within;
     }
 
 pub returns-then-failed-clause-effect : goal.returns-then-failed-clause-effect
+unfolding disk_held call_held
 returns-then-failed-clause-effect c = effect_stepped _ (steps_from c.enter.result c.enter.ensures.ok c.enter.ensures.err)
 
 pub returns-then-failed-clause-made : goal.returns-then-failed-clause-made
@@ -25,11 +27,13 @@ returns-then-failed-clause-made c =
     _ _ (sym c.if-failed.true) refl (omega arith) c.from.ensures c.saturating_add-self.ensures c.count.ensures.calls
 
 pub returns-else-failed-clause-done : goal.returns-else-failed-clause-done
+unfolding disk_held call_held
 returns-else-failed-clause-done c =
     let carry = carried c.has_call-is_listed.result c.is_ok-entered.result c.if-failed.false in
     done_stepped _ (sym c.is_ok-entered.ensures.value ∙ carry.0) carry.1 (steps_from c.enter.result c.enter.ensures.ok c.enter.ensures.err)
 
 pub returns-else-failed-clause-effect : goal.returns-else-failed-clause-effect
+unfolding disk_held call_held
 returns-else-failed-clause-effect c = effect_stepped _ (steps_from c.enter.result c.enter.ensures.ok c.enter.ensures.err)
 
 pub returns-else-failed-clause-made : goal.returns-else-failed-clause-made

@@ -1,0 +1,155 @@
+// Folders and standard output as a site.
+ghost use Rattle.std.specs.Prelude.{◌<◌, ◌≤◌};
+
+use crate::folders::Folders;
+use crate::tally::Tally;
+use site_model::{Failed, Site, SiteError};
+use std::alloc::Global;
+use std::fs::{File, Files};
+use std::io;
+use std::io::{ErrorKind, Print};
+
+/// The folders `s00`, `s01`, .. of the current folder, each a server, and standard output, to which it says.
+///
+/// The current folder stays the same as long as the site is used, and nothing else changes what stands in the
+/// servers' folders. Where memory lacks, `list` answers that; any other call fails then, with a fault of its server.
+#[derive(Drop)]
+pub struct DirSite<R: Files + Drop> {
+    folders: Folders<R>,
+    servers: u32,
+    tally: Tally,
+    ghost some: { 0 < servers },
+    ghost few: { servers ≤ 64 },
+}
+
+impl<R: Files<File = File> + AllocGlobal + Print + Clone + Drop> DirSite<R> {
+    ghost use Rattle.std.specs.Prelude.{◌≡◌, ◌<◌, ◌↔◌, IfOk, IsErr};
+    ghost use Rattle.site_model.specs.Counts.{CountsRead, CountsWrite, CountsSay};
+    ghost use Rattle.site_dir.specs.Counting.{counts_of, AreNone};
+
+    /// The site of the current folder. There are as many servers as the highest of the numbers 0 to 63 that has
+    /// a folder asks for, and four where none has; folders that are missing are made. Every file that is found is
+    /// synced, so that a stop can't change it. Nothing was counted yet.
+    pub fn new(rt: R, alloc: Global) -> Result<DirSite<R>, SiteError>
+        ensures { IfOk result (λ site. AreNone (counts_of site.tally)) }
+    {
+        match Folders::new(rt, alloc) {
+            Ok((folders, servers)) => Ok(DirSite {
+                folders,
+                servers,
+                tally: Tally::new(),
+            }),
+            Err(e) if e.kind() == ErrorKind::OutOfMemory => Err(SiteError::Memory),
+            Err(_) => Err(SiteError::Failed),
+        }
+    }
+
+    // Counts a call that writes, which the machine answered so.
+    fn wrote(&mut self, server: u32, width: usize, done: io::Result<()>) -> Result<(), Failed>
+        requires { server < self.old.servers }
+        ensures counts { CountsWrite server width (counts_of self.old.tally) (counts_of self.new.tally) (IsErr result) }
+        ensures servers { self.new.servers ≡ self.old.servers }
+        ensures outcome { IsErr result ↔ IsErr done }
+    {
+        self.tally.count_write(server, width, done.is_err());
+        done.map_err(|_| Failed)
+    }
+
+    // Counts a call that doesn't write, which the machine answered so.
+    fn looked<T: Drop>(
+        &mut self,
+        server: u32,
+        width: usize,
+        found: io::Result<T>,
+    ) -> Result<T, Failed>
+        requires { server < self.old.servers }
+        ensures counts { CountsRead server width (counts_of self.old.tally) (counts_of self.new.tally) (IsErr result) }
+        ensures servers { self.new.servers ≡ self.old.servers }
+        ensures outcome { IsErr result ↔ IsErr found }
+    {
+        self.tally.count_read(server, width, found.is_err());
+        found.map_err(|_| Failed)
+    }
+}
+
+impl<R: Files<File = File> + AllocGlobal + Print + Clone + Drop> Site for DirSite<R> {
+    ghost use Rattle.std.specs.Prelude.{false, None, []};
+    ghost use Rattle.site_dir.specs.Counting.{counts_of};
+
+    ghost tells = { false };
+
+    ghost disk = { λ _. record { files = λ _. None; said = []; past = [] } };
+
+    ghost counts = { λ s. counts_of s.tally };
+
+    ghost servers = { λ s. s.servers };
+
+    fn servers(&self) -> u32 {
+        self.servers
+    }
+
+    fn list(&mut self, alloc: Global, server: u32) -> Result<Vec<String>, SiteError> {
+        match self.folders.list(alloc, server) {
+            Ok(names) => {
+                self.tally.count_read(server, 0, false);
+                Ok(names)
+            }
+            Err(e) if e.kind() == ErrorKind::OutOfMemory => {
+                self.tally.count_read(server, 0, false);
+                Err(SiteError::Memory)
+            }
+            Err(_) => {
+                self.tally.count_read(server, 0, true);
+                Err(SiteError::Failed)
+            }
+        }
+    }
+
+    fn size(&mut self, server: u32, name: &str) -> Result<Option<u64>, Failed> {
+        let found = self.folders.size(server, name);
+        self.looked(server, 0, found)
+    }
+
+    fn read(&mut self, server: u32, name: &str, at: u64, out: &mut [u8]) -> Result<(), Failed> {
+        let filled = self.folders.read(server, name, at, out);
+        self.looked(server, out.len(), filled)
+    }
+
+    fn append(&mut self, server: u32, name: &str, bytes: &[u8]) -> Result<(), Failed> {
+        let done = self.folders.append(server, name, bytes);
+        self.wrote(server, bytes.len(), done)
+    }
+
+    fn sync(&mut self, server: u32, name: &str) -> Result<(), Failed> {
+        let done = self.folders.sync(server, name);
+        self.wrote(server, 0, done)
+    }
+
+    fn cut(&mut self, server: u32, name: &str, length: u64) -> Result<(), Failed> {
+        let done = self.folders.cut(server, name, length);
+        self.wrote(server, 0, done)
+    }
+
+    fn rename(&mut self, server: u32, old: &str, new: &str) -> Result<(), Failed> {
+        let done = self.folders.rename(server, old, new);
+        self.wrote(server, 0, done)
+    }
+
+    fn remove(&mut self, server: u32, name: &str) -> Result<(), Failed> {
+        let done = self.folders.remove(server, name);
+        self.wrote(server, 0, done)
+    }
+
+    fn say(&mut self, bytes: &[u8]) -> Result<(), Failed> {
+        match self.folders.say(bytes) {
+            Ok(()) => {
+                self.tally.count_say(false);
+                Ok(())
+            }
+            Err(_) => {
+                self.tally.count_say(true);
+                Err(Failed)
+            }
+        }
+    }
+}

@@ -1,3 +1,4 @@
 pub mod Columns
 pub mod LookUps
 pub mod PartialSums
+pub mod Written

@@ -11,125 +11,114 @@ use Rattle.std.proofs.lemmas.Bool.{cases_lt}
 use Rattle.std.proofs.Math.ListN.{set, length-set}
 use Rattle.std.specs.Simd.Lanes.{put_chunk}
 use Rattle.gf256.specs.Field.{field_mul}
+use Rattle.gf256.specs.FieldLaws.{zero-mul}
 use Rattle.rs_code.specs.Combination.{combination}
+use Rattle.rs_kernel.specs.Blocks.{crossing, AreAdded, AreSums}
 use Rattle.rs_kernel.specs.Lanes.{Adds}
-use Rattle.rs_kernel.specs.Pieces.{column, weighed, IsBlock}
-use Rattle.rs_kernel.specs.Weights.{coefficients_of}
+use Rattle.rs_kernel.specs.Weights.{coefficients_of, rows_of}
 use Rattle.rs_kernel.specs.declared.lanes.Weight.{Weight}
 
-combination-append : (a b y z : List ℕ) → length a ≡ length y → combination (a ++ b) (y ++ z) ≡ bit_xor (combination a y) (combination b z)
+combination-none : (row : List ℕ) → combination row [] ≡ 0
 unfolding combination
-combination-append [] b [] z e = sym (xor_comm 0 (combination b z) ∙ xor_zero_r (combination b z))
-combination-append [] b (v ∷ y) z e = absurd (omega arith)
-combination-append (w ∷ a) b [] z e = absurd (omega arith)
-combination-append (w ∷ a) b (v ∷ y) z e =
-    ap (bit_xor (field_mul w v)) (combination-append a b y z (omega arith)) ∙ sym (xor_assoc (field_mul w v) (combination a y) (combination b z))
-
-combination-one : (w v : ℕ) → combination (w ∷ []) (v ∷ []) ≡ field_mul w v
-unfolding combination
-combination-one w v = xor_zero_r (field_mul w v)
-
-map-range_push : (f : ℕ → ℕ) (a j : ℕ) → map f (range_with_len a (suc j)) ≡ map f (range_with_len a j) ++ (f (a + j) ∷ [])
-map-range_push f a zero = ap (λ x. f x ∷ []) (omega arith)
-map-range_push f a (suc j) = ap (λ l. f a ∷ l) (map-range_push f (a + 1) j ∙ ap (λ x. map f (range_with_len (a + 1) j) ++ (f x ∷ [])) (omega arith))
+combination-none [] = refl
+combination-none (w ∷ row) = refl
 
 -- the first j terms
-abbrev pub partial : List ℕ → ℕ → ℕ → List ℕ → ℕ → ℕ
-partial row n i pieces j = combination (take j row) (column j n i pieces)
+abbrev pub partial : List ℕ → List ℕ → ℕ → ℕ
+partial row values j = combination row (take j values)
 
-pub partial-zero : (row : List ℕ) (n i : ℕ) (pieces : List ℕ) → partial row n i pieces 0 ≡ 0
+partial-suc : (row values : List ℕ) (j : ℕ) → j < length values → partial row values (suc j) ≡ bit_xor (partial row values j) (field_mul (slice_index row j) (slice_index values j))
 unfolding combination
-partial-zero [] n i pieces = refl
-partial-zero (w ∷ row) n i pieces = refl
+partial-suc row [] j h = absurd (omega arith)
+partial-suc [] (v ∷ values) j h = sym (ap (bit_xor 0) (zero-mul (slice_index (v ∷ values) j)))
+partial-suc (w ∷ row) (v ∷ values) zero h = ap (bit_xor (field_mul w v)) (combination-none row) ∙ xor_comm (field_mul w v) 0
+partial-suc (w ∷ row) (v ∷ values) (suc j) h =
+    ap (bit_xor (field_mul w v)) (partial-suc row values j (omega arith)) ∙ sym (xor_assoc (field_mul w v) (partial row values j) (field_mul (slice_index row j) (slice_index values j)))
 
-pub partial-suc : (row : List ℕ) (n i : ℕ) (pieces : List ℕ) (j : ℕ) → j < length row
-    → partial row n i pieces (suc j) ≡ bit_xor (partial row n i pieces j) (field_mul (slice_index row j) (slice_index pieces (j * n + i)))
-partial-suc row n i pieces j h =
-    let f = λ (r : ℕ). slice_index pieces (r * n + i) in
-    (λ k. combination (take-suc row j 0 h k) (map-range_push (λ r. slice_index pieces (r * n + i)) 0 j k))
-    ∙ combination-append (take j row) (slice_index row j ∷ []) (column j n i pieces) (slice_index pieces ((0 + j) * n + i) ∷ [])
-    (length-take-le j row (omega arith) ∙ sym (length-map-range_with_len (λ r. slice_index pieces (r * n + i)) 0 j))
-    ∙ ap (bit_xor (partial row n i pieces j)) (combination-one (slice_index row j) (slice_index pieces ((0 + j) * n + i)) ∙ ap (λ r. field_mul (slice_index row j) (slice_index pieces (r * n + i))) (omega arith))
+pub length-crossing : (i : ℕ) (lines : List (List ℕ)) → length (crossing i lines) ≡ length lines
+length-crossing i [] = refl
+length-crossing i (line ∷ lines) = ap suc (length-crossing i lines)
 
-pub partial-all : (row : List ℕ) (n i : ℕ) (pieces : List ℕ) (j : ℕ) → j ≡ length row → partial row n i pieces j ≡ weighed row n i pieces
-partial-all row n i pieces j e = ap (partial row n i pieces) e ∙ ap (λ l. combination l (column (length row) n i pieces)) (take-length row)
+pub crossing_at : (i : ℕ) (lines : List (List ℕ)) (r : ℕ) → r < length lines → slice_index (crossing i lines) r ≡ slice_index (get_or lines r []) i
+crossing_at i lines r h = get_or-map (λ line. slice_index line i) lines r [] 0 h
+
+-- ---- sums in lanes
 
 -- at each lane the first j terms
-pub record SumsTo (row : List ℕ) (n at : ℕ) (pieces : List ℕ) (j : ℕ) (sum : List ℕ) : Type 0 where
+pub record SumsTo (row : List ℕ) (at : ℕ) (lines : List (List ℕ)) (j : ℕ) (sum : List ℕ) : Type 0 where
   pub wide : length sum ≡ 32
-  pub lanes : (i : ℕ) → i < 32 → slice_index sum i ≡ partial row n (at + i) pieces j
+  pub lanes : (i : ℕ) → i < 32 → slice_index sum i ≡ partial row (crossing (at + i) lines) j
 
-pub sum_begins : (row : List ℕ) (n at : ℕ) (pieces : List ℕ) → SumsTo row n at pieces 0 (replicate 32 0)
-sum_begins row n at pieces = record { wide = length-replicate {A = ℕ} 32 0; lanes = λ i h. get_or-replicate 32 i 0 0 h ∙ sym (partial-zero row n (at + i) pieces) }
+abbrev pub EachSumsTo : List (List ℕ) → ℕ → List (List ℕ) → ℕ → List (List ℕ) → Type 0
+EachSumsTo rows at lines j sums = (r : ℕ) → r < length rows → SumsTo (get_or rows r []) at lines j (get_or sums r [])
 
-pub sum_goes_on : (row : List ℕ) (n at : ℕ) (pieces : List ℕ) (j c : ℕ) (values sum result : List ℕ) → j < length row → c ≡ slice_index row j
-    → ((i : ℕ) → i < 32 → slice_index values i ≡ slice_index pieces (j * n + at + i)) → Adds 32 c values sum result → SumsTo row n at pieces j sum → SumsTo row n at pieces (suc j) result
-sum_goes_on row n at pieces j c values sum result h e loaded adds so_far = record {
-  wide = adds.wide;
-  lanes = λ i k.
-      let place : j * n + at + i ≡ j * n + (at + i) = omega arith in
-      adds.lanes i k
-      ∙ (λ m. bit_xor (so_far.lanes i k m) (field_mul (e m) ((loaded i k ∙ ap (slice_index pieces) place) m)))
-      ∙ sym (partial-suc row n (at + i) pieces j h);
+pub sums_begin : (rows : List (List ℕ)) (at : ℕ) (lines : List (List ℕ)) (m : ℕ) → length rows ≡ m → EachSumsTo rows at lines 0 (replicate m (replicate 32 0))
+sums_begin rows at lines m long r h =
+    subst (SumsTo (get_or rows r []) at lines 0) (sym (get_or-replicate m r (replicate 32 0) [] (omega (arith, long)))) record {
+      wide = length-replicate {A = ℕ} 32 0;
+      lanes = λ i k. get_or-replicate 32 i 0 0 k ∙ sym (combination-none (get_or rows r []));
+    }
+
+pub sums_go_on : (rows : List (List ℕ)) (at : ℕ) (lines : List (List ℕ)) (j : ℕ) (values : List ℕ) (sums more : List (List ℕ)) → j < length lines
+    → ((i : ℕ) → i < 32 → slice_index values i ≡ slice_index (get_or lines j []) (at + i)) → AreAdded j values rows sums more → EachSumsTo rows at lines j sums → EachSumsTo rows at lines (j + 1) more
+sums_go_on rows at lines j values sums more h loaded adds so_far r k =
+    let next : suc j ≡ j + 1 = omega arith in
+    record {
+      wide = (adds r k).wide;
+      lanes = λ i l.
+          (adds r k).lanes i l
+          ∙ (λ m. bit_xor ((so_far r k).lanes i l m) (field_mul (slice_index (get_or rows r []) j) ((loaded i l ∙ sym (crossing_at (at + i) lines j h)) m)))
+          ∙ sym (partial-suc (get_or rows r []) (crossing (at + i) lines) j (omega (arith, length-crossing (at + i) lines)))
+          ∙ ap (partial (get_or rows r []) (crossing (at + i) lines)) next;
+    }
+
+pub sums_end : (rows : List (List ℕ)) (at : ℕ) (lines : List (List ℕ)) (j : ℕ) (sums : List (List ℕ)) → j ≡ length lines → EachSumsTo rows at lines j sums → AreSums rows at lines sums
+sums_end rows at lines j sums e so_far r h = record {
+  wide = (so_far r h).wide;
+  each = λ i k.
+      let all : j ≡ length (crossing (at + i) lines) = omega (arith, e, length-crossing (at + i) lines) in
+      (so_far r h).lanes i k ∙ ap (partial (get_or rows r []) (crossing (at + i) lines)) all ∙ ap (combination (get_or rows r [])) (take-length (crossing (at + i) lines));
 }
 
-pub sum_ends : (row : List ℕ) (n at : ℕ) (pieces : List ℕ) (j : ℕ) (sum : List ℕ) → j ≡ length row → SumsTo row n at pieces j sum → IsBlock row n at pieces sum
-sum_ends row n at pieces j sum e so_far = record { wide = so_far.wide; sums = λ i h. so_far.lanes i h ∙ partial-all row n (at + i) pieces j e }
+-- ---- one piece more
 
-coefficient_at : (weights : List Weight) (j : ℕ) (d : Weight) → j < length weights → (get_or weights j d).coefficient ≡ slice_index (coefficients_of weights) j
-coefficient_at weights j d h = sym (get_or-map (λ v. v.coefficient) weights j d 0 h)
+pub length-rows : (weights : List (List Weight)) → length (rows_of weights) ≡ length weights
+length-rows [] = refl
+length-rows (w ∷ weights) = ap suc (length-rows weights)
 
-pub length-coefficients : (weights : List Weight) → length (coefficients_of weights) ≡ length weights
+length-coefficients : (weights : List Weight) → length (coefficients_of weights) ≡ length weights
 length-coefficients [] = refl
 length-coefficients (w ∷ weights) = ap suc (length-coefficients weights)
 
--- one piece more
-pub weight_adds : (weights : List Weight) (n at : ℕ) (pieces : List ℕ) (j : ℕ) (d : Weight) (values sum result : List ℕ) → j < length weights
-    → ((i : ℕ) → i < 32 → slice_index values i ≡ slice_index pieces (j * n + at + i)) → Adds 32 (get_or weights j d).coefficient values sum result → SumsTo (coefficients_of weights) n at pieces j sum → SumsTo (coefficients_of weights) n at pieces (suc j) result
-weight_adds weights n at pieces j d values sum result h loaded adds so_far =
-    sum_goes_on (coefficients_of weights) n at pieces j (get_or weights j d).coefficient values sum result (omega (arith, length-coefficients weights)) (coefficient_at weights j d h) loaded adds so_far
+pub row_at : (weights : List (List Weight)) (r : ℕ) → r < length weights → get_or (rows_of weights) r [] ≡ coefficients_of (get_or weights r [])
+row_at weights r h = get_or-map coefficients_of weights r [] [] h
 
--- ---- the same, byte by byte
+pub length-row : (weights : List (List Weight)) (r : ℕ) → r < length weights → length (get_or (rows_of weights) r []) ≡ length (get_or weights r [])
+length-row weights r h = ap length (row_at weights r h) ∙ length-coefficients (get_or weights r [])
 
-pub byte_goes_on : (row : List ℕ) (n at : ℕ) (pieces : List ℕ) (j sum : ℕ) → j < length row → sum ≡ partial row n at pieces j
-    → bit_xor sum (field_mul (slice_index row j) (slice_index pieces (j * n + at))) ≡ partial row n at pieces (j + 1)
-byte_goes_on row n at pieces j sum h e =
-    let next : suc j ≡ j + 1 = omega arith in
-    ap (λ s. bit_xor s (field_mul (slice_index row j) (slice_index pieces (j * n + at)))) e ∙ sym (partial-suc row n at pieces j h) ∙ ap (partial row n at pieces) next
+pub coefficient_at : (weights : List (List Weight)) (r j : ℕ) (d : Weight) → r < length weights → j < length (get_or weights r [])
+    → (get_or (get_or weights r []) j d).coefficient ≡ slice_index (get_or (rows_of weights) r []) j
+coefficient_at weights r j d h k =
+    sym (get_or-map (λ v. v.coefficient) (get_or weights r []) j d 0 k) ∙ sym (ap (λ row. slice_index row j) (row_at weights r h))
 
--- ---- what is written so far
+-- the rows below a limit have the piece
+pub record AddedBelow (piece : ℕ) (values : List ℕ) (rows sums : List (List ℕ)) (limit : ℕ) (more : List (List ℕ)) : Type 0 where
+  pub wide : length more ≡ length sums
+  pub done : (r : ℕ) → r < limit → Adds 32 (slice_index (get_or rows r []) piece) values (get_or sums r []) (get_or more r [])
+  pub left : (r : ℕ) → limit ≤ r → get_or more r [] ≡ get_or sums r []
 
-pub record WeighedTo (row : List ℕ) (n : ℕ) (pieces : List ℕ) (limit : ℕ) (out : List ℕ) : Type 0 where
-  pub wide : length out ≡ n
-  pub bytes : (i : ℕ) → i < limit → slice_index out i ≡ weighed row n i pieces
+pub none_added : (piece : ℕ) (values : List ℕ) (rows sums : List (List ℕ)) → AddedBelow piece values rows sums 0 sums
+none_added piece values rows sums = record { wide = refl; done = λ r h. absurd (omega arith); left = λ r h. refl }
 
-pub block_written : (row : List ℕ) (n : ℕ) (pieces : List ℕ) (at : ℕ) (out lanes : List ℕ) → at + 32 ≤ n → IsBlock row n at pieces lanes → WeighedTo row n pieces at out → WeighedTo row n pieces (at + 32) (put_chunk at out lanes)
-block_written row n pieces at out lanes room block so_far = record {
-  wide = length-put_chunk at out lanes ∙ so_far.wide;
-  bytes = λ i h. elim (cases_lt i at) [
-    | inl below ↦ get_or-put_chunk_below at out lanes i 0 below ∙ so_far.bytes i below
-    | inr above ↦
-        let place : at + (i - at) ≡ i = omega arith in
-        let inside : i - at < 32 = omega arith in
-        ap (λ j. get_or (put_chunk at out lanes) j 0) (sym place)
-        ∙ get_or-put_chunk_at at out lanes (i - at) 0 (omega (arith, block.wide)) (omega (arith, so_far.wide, block.wide))
-        ∙ block.sums (i - at) inside ∙ ap (λ j. weighed row n j pieces) place
-  ];
-}
-
--- the same for the block of that number, by coefficients that are the row's
-pub next_block_written : (row coefficients : List ℕ) (n : ℕ) (pieces : List ℕ) (index : ℕ) (out lanes : List ℕ) → coefficients ≡ row → (index + 1) * 32 ≤ n → IsBlock coefficients n (index * 32) pieces lanes
-    → WeighedTo row n pieces (index * 32) out → WeighedTo row n pieces ((index + 1) * 32) (put_chunk (index * 32) out lanes)
-next_block_written row coefficients n pieces index out lanes same room block so_far =
-    let next : index * 32 + 32 ≡ (index + 1) * 32 = omega arith in
-    subst (λ limit. WeighedTo row n pieces limit (put_chunk (index * 32) out lanes)) next
-    (block_written row n pieces (index * 32) out lanes (omega arith) (subst (λ c. IsBlock c n (index * 32) pieces lanes) same block) so_far)
-
-pub byte_written : (row : List ℕ) (n : ℕ) (pieces : List ℕ) (at : ℕ) (out : List ℕ) (byte : ℕ) → at < n → byte ≡ weighed row n at pieces → WeighedTo row n pieces at out → WeighedTo row n pieces (at + 1) (set out at byte)
-byte_written row n pieces at out byte room sum so_far = record {
-  wide = length-set out at byte ∙ so_far.wide;
-  bytes = below_more (λ i. slice_index (set out at byte) i ≡ weighed row n i pieces) at
-      (λ i h. let other : i ≢ at = omega arith in rw get_or-set_other (so_far.bytes i h)) (let inside : at < length out = omega (arith, so_far.wide) in rw get_or-set_same sum);
+pub row_added : (piece : ℕ) (values : List ℕ) (rows sums : List (List ℕ)) (row : ℕ) (more : List (List ℕ)) (lanes : List ℕ) → row < length more
+    → Adds 32 (slice_index (get_or rows row []) piece) values (get_or more row []) lanes → AddedBelow piece values rows sums row more → AddedBelow piece values rows sums (row + 1) (set more row lanes)
+row_added piece values rows sums row more lanes inside adds so_far = record {
+  wide = length-set more row lanes ∙ so_far.wide;
+  done = below_more (λ r. Adds 32 (slice_index (get_or rows r []) piece) values (get_or sums r []) (get_or (set more row lanes) r [])) row
+      (λ r h. let other : r ≢ row = omega arith in subst (Adds 32 (slice_index (get_or rows r []) piece) values (get_or sums r [])) (sym (get_or-set_other more row r lanes [] other)) (so_far.done r h))
+      (subst (Adds 32 (slice_index (get_or rows row []) piece) values (get_or sums row [])) (sym (get_or-set_same more row lanes [] inside))
+      (subst (λ s. Adds 32 (slice_index (get_or rows row []) piece) values s lanes) (so_far.left row (omega arith)) adds));
+  left = λ r h. let other : r ≢ row = omega arith in get_or-set_other more row r lanes [] other ∙ so_far.left r (omega arith);
 }
 
 -- ---- a multiple added so far

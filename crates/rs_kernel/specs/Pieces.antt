@@ -1,5 +1,5 @@
 -- Pieces of equal length, one after the other.
-use Rattle.std.specs.Prelude.{◌≡◌, ℕ, ◌+◌, ◌*◌, ◌<◌, List, ◌++◌, length, map, slice_index, EachIndex}
+use Rattle.std.specs.Prelude.{◌≡◌, ℕ, ◌+◌, ◌*◌, ◌<◌, List, [], ◌++◌, length, map, get_or, slice_index}
 use Rattle.std.specs.List.{range_with_len}
 use Rattle.rs_code.specs.Codeword.{IsCodeword}
 use Rattle.rs_code.specs.Combination.{combination}
@@ -8,18 +8,17 @@ use Rattle.rs_code.specs.Combination.{combination}
 abbrev pub column : ℕ → ℕ → ℕ → List ℕ → List ℕ
 column count n i pieces = map (λ r. slice_index pieces (r * n + i)) (range_with_len 0 count)
 
--- the sum of these bytes, each times its coefficient
-abbrev pub weighed : List ℕ → ℕ → ℕ → List ℕ → ℕ
-weighed row n i pieces = combination row (column (length row) n i pieces)
+-- the sum of the bytes of such a column, each times its coefficient
+abbrev pub weighed : ℕ → List ℕ → ℕ → ℕ → List ℕ → ℕ
+weighed count row n i pieces = combination row (column count n i pieces)
 
--- each byte is the sum of its column
-abbrev pub IsWeighed : List ℕ → List ℕ → List ℕ → Type 0
-IsWeighed row pieces out = EachIndex out (λ i. slice_index out i ≡ weighed row (length out) i pieces)
+-- coefficients that give shard `want` of each codeword
+abbrev pub IsRow : ℕ → ℕ → List ℕ → List ℕ → ℕ → Type 0
+IsRow k m have row want = (c : List ℕ) → IsCodeword k m c → combination row (map (slice_index c) have) ≡ slice_index c want
 
--- 32 of these sums, from a place on
-pub record IsBlock (row : List ℕ) (n at : ℕ) (pieces lanes : List ℕ) : Type 0 where
-  pub wide : length lanes ≡ 32
-  pub sums : (i : ℕ) → i < 32 → slice_index lanes i ≡ weighed row n (at + i) pieces
+-- for each row of coefficients stands a piece of n bytes, each the sum of its column
+abbrev pub AreWeighed : ℕ → List (List ℕ) → ℕ → List ℕ → List ℕ → Type 0
+AreWeighed count rows n pieces out = (r : ℕ) → r < length rows → (i : ℕ) → i < n → slice_index out (r * n + i) ≡ weighed count (get_or rows r []) n i pieces
 
 -- each column of the data with that of the parity is a codeword
 abbrev pub AreCodewords : ℕ → ℕ → ℕ → List ℕ → List ℕ → Type 0
@@ -29,3 +28,8 @@ AreCodewords k m n source parity = (i : ℕ) → i < n → IsCodeword k m (colum
 abbrev pub IsRestored : ℕ → ℕ → ℕ → List ℕ → List ℕ → ℕ → List ℕ → Type 0
 IsRestored k m n have pieces want out =
     (i : ℕ) → i < n → (c : List ℕ) → IsCodeword k m c → map (slice_index c) have ≡ column k n i pieces → slice_index out i ≡ slice_index c want
+
+-- the same for several shards, whose pieces stand one after the other
+abbrev pub AreRestored : ℕ → ℕ → ℕ → List ℕ → List ℕ → List ℕ → List ℕ → Type 0
+AreRestored k m n have pieces wants out =
+    (p : ℕ) → p < length wants → (i : ℕ) → i < n → (c : List ℕ) → IsCodeword k m c → map (slice_index c) have ≡ column k n i pieces → slice_index out (p * n + i) ≡ slice_index c (slice_index wants p)

@@ -1,4 +1,5 @@
-ghost use Rattle.std.specs.Prelude.{◌<◌, ◌≤◌};
+ghost use Rattle.std.specs.Prelude.{◌≡◌, ◌<◌, ◌≤◌, ◌*◌, length};
+ghost use Rattle.rs_code.specs.Shards.{AreShards};
 
 use super::*;
 use std::alloc::Global;
@@ -16,8 +17,8 @@ fn fill(bytes: &mut [u8]) {
     }
 }
 
-/// The lengths about those of a vector, and a piece's own.
-const SIZES: [usize; 10] = [1, 7, 16, 17, 31, 32, 33, 64, 95, 65536];
+/// Lengths about those of a vector and of a block, and a piece's own.
+const SIZES: [usize; 10] = [1, 7, 16, 17, 31, 33, 64, 511, 513, 65536];
 
 #[test]
 fn columns_of_the_code(rt: HostRuntime) {
@@ -71,23 +72,27 @@ fn gathered(alloc: Global, pieces: &[u8], size: usize, have: &[u8; 10]) -> Resul
     Ok(gathered)
 }
 
+/// Adds `c` times `src` to `out` byte by byte, by a table of the products.
+fn plain_mul_add(out: &mut [u8], src: &[u8], c: u8) {
+    let mut products = [0; 256];
+    for value in 0..=255u8 {
+        products[usize::from(value)] = mul(c, value);
+    }
+    for (byte, value) in out.iter_mut().zip(src) {
+        *byte ^= products[usize::from(*value)];
+    }
+}
+
 /// A parity piece by one multiple of each data piece after the other.
-fn plain_parity(
-    rt: &impl Abort,
-    alloc: Global,
-    pieces: &[u8],
-    size: usize,
-    p: u8,
-) -> Result<Vec<u8>, Fail>
+fn plain_parity(alloc: Global, pieces: &[u8], size: usize, p: u8) -> Result<Vec<u8>, Fail>
     requires size { 0 < size }
     requires shard { p < 4 }
 {
     let code = Code::<10, 4>::new();
     let mut sum = Vec::from_elem(alloc, 0u8, size)?;
     for d in 0..10u8 {
-        let datum = piece(pieces, size, d);
-        assert_eq!(rt; datum.len(), sum.len());
-        mul_add(sum.as_mut_slice(), datum, code.parity_coefficient(p, d));
+        let coefficient = code.parity_coefficient(p, d);
+        plain_mul_add(sum.as_mut_slice(), piece(pieces, size, d), coefficient);
     }
     Ok(sum)
 }
@@ -98,10 +103,25 @@ fn parity_is_the_plain_sum(rt: HostRuntime) -> Result<(), Fail> {
         let size = size.clamp(1, 65536);
         let pieces = encoded(rt.alloc(), size)?;
         for p in 0..4u8 {
-            let plain = plain_parity(&rt, rt.alloc(), pieces.as_slice(), size, p)?;
+            let plain = plain_parity(rt.alloc(), pieces.as_slice(), size, p)?;
             let fused = piece(pieces.as_slice(), size, 10 + p);
             assert!(rt; plain.as_slice() == fused, "parity {p} of {size}");
         }
+    }
+    Ok(())
+}
+
+#[test]
+fn multiples_are_the_plain_ones(rt: HostRuntime) -> Result<(), Fail> {
+    for size in SIZES {
+        let size = size.clamp(1, 65536);
+        let mut source = Vec::from_elem(rt.alloc(), 0u8, size)?;
+        let mut fast = Vec::from_elem(rt.alloc(), 1u8, size)?;
+        let mut plain = Vec::from_elem(rt.alloc(), 1u8, size)?;
+        fill(source.as_mut_slice());
+        mul_add(fast.as_mut_slice(), source.as_slice(), 150);
+        plain_mul_add(plain.as_mut_slice(), source.as_slice(), 150);
+        assert!(rt; fast.as_slice() == plain.as_slice(), "{size} bytes");
     }
     Ok(())
 }
@@ -125,6 +145,32 @@ fn restores(
         assert!(rt;
             out.as_slice() == piece(pieces, size, want),
             "shard {want} of {size}"
+        );
+    }
+    restores_four(rt, alloc, pieces, source.as_slice(), size, have)
+}
+
+/// Restores four shards at once from the pieces of these ten.
+fn restores_four(
+    rt: &impl Abort,
+    alloc: Global,
+    pieces: &[u8],
+    source: &[u8],
+    size: usize,
+    have: &[u8; 10],
+) -> Result<(), Fail>
+    requires size { (0 < size) × (size ≤ 65536) }
+    requires source { length source.now ≡ 10 * size }
+    requires have { AreShards 14 have.now }
+{
+    let want = [13, 0, 6, 3];
+    let mut out = Vec::from_elem(alloc, 0u8, 4 * size)?;
+    restore_four(have, source, &want, out.as_mut_slice());
+    for (place, shard) in (0..4u8).zip(want) {
+        let restored = piece(out.as_slice(), size, place);
+        assert!(rt;
+            restored == piece(pieces, size, shard),
+            "shard {shard} of {size} among four"
         );
     }
     Ok(())

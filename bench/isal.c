@@ -1,5 +1,7 @@
 /* Times ISA-L on ten data and four parity pieces of 64 KiB, with the coefficients of rs_code, and restoring
- * the first four from the rest. Prints `NAME RATE MB/s`, of the bytes read, once for each argument. */
+ * the first four from the rest. Prints `NAME RATE MB/s`, of the bytes read, once for each argument: `encode`
+ * and `restore` on pieces that stand one after the other, as the kernels of this repository take them, and
+ * `encode_apart` and `restore_apart` on pieces of their own, each at a multiple of 64. */
 #include <isa-l/erasure_code.h>
 #include <stdio.h>
 #include <stdlib.h>
@@ -50,36 +52,63 @@ static void report(const char *name, unsigned char *tables, unsigned char **from
     printf("%s %.0f MB/s\n", name, (double)REPEATS * DATA * SIZE / (now() - start) / 1e6);
 }
 
+/* Memory for pieces one after the other. */
+static void lay_out(unsigned char **piece, int count)
+{
+    piece[0] = malloc((size_t)count * SIZE);
+    for (int i = 0; i < count; i++)
+        piece[i] = piece[0] + (size_t)i * SIZE;
+}
+
+/* A copy of each piece, at a multiple of 64. */
+static void copy_apart(unsigned char **copy, unsigned char **piece, int count)
+{
+    for (int i = 0; i < count; i++)
+        memcpy(copy[i] = aligned_alloc(64, SIZE), piece[i], SIZE);
+}
+
+static void fill(unsigned char *bytes)
+{
+    unsigned long long state = 88172645463325252ull;
+    for (int i = 0; i < DATA * SIZE; i++) {
+        state ^= state << 13;
+        state ^= state >> 7;
+        state ^= state << 17;
+        bytes[i] = (unsigned char)(state >> 32);
+    }
+}
+
 int main(int words, char **word)
 {
     static unsigned char matrix[SHARDS * DATA], rest[DATA * DATA], inverse[DATA * DATA];
     static unsigned char encode[32 * DATA * PARITY], restore[32 * DATA * PARITY];
-    unsigned char *piece[SHARDS], *back[PARITY];
-    unsigned long long state = 88172645463325252ull;
+    unsigned char *data[DATA], *parity[PARITY], *have[DATA], *lost[PARITY];
+    unsigned char *data_apart[DATA], *parity_apart[PARITY], *have_apart[DATA], *lost_apart[PARITY];
     (void)word;
-    for (int i = 0; i < SHARDS; i++) {
-        piece[i] = aligned_alloc(64, SIZE);
-        for (int j = 0; i < DATA && j < SIZE; j++) {
-            state ^= state << 13;
-            state ^= state >> 7;
-            state ^= state << 17;
-            piece[i][j] = (unsigned char)(state >> 32);
-        }
-    }
-    for (int i = 0; i < PARITY; i++)
-        back[i] = aligned_alloc(64, SIZE);
     make_matrix(matrix);
     ec_init_tables(DATA, PARITY, matrix + DATA * DATA, encode);
     memcpy(rest, matrix + PARITY * DATA, sizeof rest);
     if (gf_invert_matrix(rest, inverse, DATA))
         return 2;
     ec_init_tables(DATA, PARITY, inverse, restore);
+    lay_out(data, DATA);
+    lay_out(parity, PARITY);
+    lay_out(have, DATA);
+    lay_out(lost, PARITY);
+    fill(data[0]);
+    ec_encode_data(SIZE, DATA, PARITY, encode, data, parity);
+    for (int i = 0; i < DATA; i++)
+        memcpy(have[i], i + PARITY < DATA ? data[i + PARITY] : parity[i + PARITY - DATA], SIZE);
+    ec_encode_data(SIZE, DATA, PARITY, restore, have, lost);
+    copy_apart(data_apart, data, DATA);
+    copy_apart(parity_apart, parity, PARITY);
+    copy_apart(have_apart, have, DATA);
+    copy_apart(lost_apart, lost, PARITY);
     for (int round = 1; round < words; round++) {
-        report("encode", encode, piece, piece + DATA);
-        report("restore", restore, piece + PARITY, back);
+        report("encode", encode, data, parity);
+        report("restore", restore, have, lost);
+        report("encode_apart", encode, data_apart, parity_apart);
+        report("restore_apart", restore, have_apart, lost_apart);
     }
-    for (int i = 0; i < PARITY; i++)
-        if (words > 1 && memcmp(back[i], piece[i], SIZE))
-            return 1;
-    return 0;
+    return memcmp(lost[0], data[0], (size_t)PARITY * SIZE) != 0;
 }

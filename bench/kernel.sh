@@ -1,9 +1,10 @@
 #!/bin/sh
 # The kernels' speed against ISA-L's, as medians of the ratios within rounds: bench/kernel.sh [ROUNDS] [FOLDER]
+# ISA-L is timed on pieces that stand as the kernels' do, one after the other, and on aligned pieces apart.
 # Needs gcc, python3, libisal-dev and rt. CORE names the processor that is used. FOLDER keeps what is built.
 set -eu
 top=$(cd "$(dirname "$0")/.." && pwd)
-rounds=${1:-9}
+rounds=${1:-15}
 to=${2:-${TMPDIR:-/tmp}/kernel-bench}
 core=${CORE:-1}
 mkdir -p "$to"
@@ -23,9 +24,17 @@ rates = {}
 for line in open(sys.argv[1]):
     number, what, name, rate, _ = line.split()
     rates[number, what, name] = float(rate)
-for what in ("x86-64-v2", "x86-64-v3"):
-    for name in ("encode", "restore"):
-        pairs = [(r, rates[n, "isal", name]) for (n, w, k), r in rates.items() if (w, k) == (what, name)]
-        ratio = statistics.median(ours / theirs for ours, theirs in pairs)
-        print(f"{name} {what}: {ratio:.2f} of ISA-L ({statistics.median(o for o, _ in pairs):.0f} MB/s)")
+rounds = sorted({number for number, _, _ in rates})
+
+def speed(what, name):
+    return statistics.median(rates[n, what, name] for n in rounds)
+
+def ratio(what, name, theirs):
+    return statistics.median(rates[n, what, name] / rates[n, "isal", theirs] for n in rounds)
+
+for name in ("encode", "restore"):
+    print(f"{name} isal: {speed('isal', name):.0f} MB/s, on pieces apart {speed('isal', name + '_apart'):.0f} MB/s")
+    for what in ("x86-64-v2", "x86-64-v3"):
+        same, apart = ratio(what, name, name), ratio(what, name, name + "_apart")
+        print(f"{name} {what}: {speed(what, name):.0f} MB/s, {same:.2f} of ISA-L on the same pieces, {apart:.2f} of it on pieces apart")
 PY

@@ -4,7 +4,7 @@
 
 ghost use Rattle.std.specs.Prelude.{◌≡◌, ◌*◌, IfOk, length};
 
-use rs_kernel::{encode_piece, mul_add, restore_piece};
+use rs_kernel::{encode_piece, mul_add, restore_four, restore_piece};
 use std::alloc::AllocError;
 use std::time::{Duration, Instant};
 use std::{env, io};
@@ -20,6 +20,9 @@ const REPEATS: u64 = 200;
 
 /// The shards that are read where the first four are lost.
 const HAVE: [u8; 10] = [4, 5, 6, 7, 8, 9, 10, 11, 12, 13];
+
+/// The shards that are lost.
+const WANT: [u8; 4] = [0, 1, 2, 3];
 
 /// Bytes that no compiler can guess.
 fn fill(bytes: &mut [u8]) {
@@ -59,18 +62,28 @@ fn time_encode(rt: &HostRuntime, pieces: &[u8], parity: &mut [u8]) -> io::Result
     report(rt, "encode", TEN_PIECES * REPEATS, start.elapsed(rt)?)
 }
 
-/// Times four lost shards, one after the other.
-fn time_restore(rt: &HostRuntime, pieces: &[u8], out: &mut [u8]) -> io::Result<()>
+/// Times four lost shards at once.
+fn time_restore(rt: &HostRuntime, pieces: &[u8], lost: &mut [u8]) -> io::Result<()>
+    requires pieces { length pieces.now ≡ 10 * SIZE }
+    requires lost { length lost.old ≡ 4 * SIZE }
+{
+    let start = Instant::now(rt)?;
+    for _ in 0..REPEATS {
+        restore_four(&HAVE, pieces, &WANT, lost);
+    }
+    report(rt, "restore", TEN_PIECES * REPEATS, start.elapsed(rt)?)
+}
+
+/// Times one lost shard.
+fn time_restore_one(rt: &HostRuntime, pieces: &[u8], out: &mut [u8]) -> io::Result<()>
     requires pieces { length pieces.now ≡ 10 * SIZE }
     requires out { length out.old ≡ SIZE }
 {
     let start = Instant::now(rt)?;
     for _ in 0..REPEATS {
-        for want in 0..4u8 {
-            restore_piece(&HAVE, pieces, want, out);
-        }
+        restore_piece(&HAVE, pieces, WANT[0], out);
     }
-    report(rt, "restore", TEN_PIECES * REPEATS, start.elapsed(rt)?)
+    report(rt, "restore_one", TEN_PIECES * REPEATS, start.elapsed(rt)?)
 }
 
 /// Times ten multiples of one piece.
@@ -93,7 +106,7 @@ fn buffer(rt: &HostRuntime, size: usize) -> Result<Vec<u8>, AllocError>
     Vec::from_elem(rt.alloc(), 0u8, size)
 }
 
-/// Prints what the three calls make.
+/// Prints what the calls make.
 fn show(
     rt: &HostRuntime,
     pieces: &[u8],
@@ -108,8 +121,10 @@ fn show(
 {
     encode_piece(pieces, parity);
     println!(rt; "parity {:016x}", checksum(parity))?;
-    restore_piece(&HAVE, pieces, 0, out);
+    restore_piece(&HAVE, pieces, WANT[0], out);
     println!(rt; "restored {:016x}", checksum(out))?;
+    restore_four(&HAVE, pieces, &WANT, parity);
+    println!(rt; "four restored {:016x}", checksum(parity))?;
     mul_add(out, piece, 150);
     println!(rt; "added {:016x}", checksum(out))
 }
@@ -130,7 +145,8 @@ fn run(
     show(rt, pieces, piece, parity, out)?;
     for _word in env::args(rt)?.skip(1) {
         time_encode(rt, pieces, parity)?;
-        time_restore(rt, pieces, out)?;
+        time_restore(rt, pieces, parity)?;
+        time_restore_one(rt, pieces, out)?;
         time_mul_add(rt, piece, out)?;
     }
     Ok(())

@@ -2,11 +2,14 @@
 # The kernels' speed against ISA-L's, as medians of the ratios within rounds: bench/kernel.sh [ROUNDS] [FOLDER]
 # ISA-L is timed on pieces that stand as the kernels' do, one after the other, and on aligned pieces apart.
 # Needs gcc, python3, libisal-dev and rt. CORE names the processor that is used. FOLDER keeps what is built.
+# With PRIORITY=50, as root, no other program of the machine runs there meanwhile.
 set -eu
 top=$(cd "$(dirname "$0")/.." && pwd)
 rounds=${1:-15}
 to=${2:-${TMPDIR:-/tmp}/kernel-bench}
 core=${CORE:-1}
+first="taskset -c $core"
+[ -z "${PRIORITY:-}" ] || first="chrt -f $PRIORITY $first"
 mkdir -p "$to"
 gcc -O2 -o "$to/isal" "$top/bench/isal.c" -lisal
 for cpu in x86-64-v2 x86-64-v3; do
@@ -15,7 +18,7 @@ done
 : >"$to/rates"
 for round in $(seq "$rounds"); do
     for what in isal x86-64-v2 x86-64-v3; do
-        taskset -c "$core" "$to/$what" time | grep MB/s | sed "s/^/$round $what /" >>"$to/rates"
+        $first "$to/$what" time | grep MB/s | sed "s/^/$round $what /" >>"$to/rates"
     done
 done
 python3 - "$to/rates" <<'PY'

@@ -43,7 +43,9 @@ fn weights_for(have: &[u8; 10], want: u8) -> [Weight; 10]
     requires want { want < 14 }
     ensures { IsRow 10 4 have.now (coefficients_of result) want }
 {
-    Code::<10, 4>::new().coefficients(have, want).map(Weight::new)
+    Code::<10, 4>::new()
+        .coefficients(have, want)
+        .map(Weight::new)
 }
 
 /// Writes the four parity pieces of ten data pieces, so that each column is a codeword.

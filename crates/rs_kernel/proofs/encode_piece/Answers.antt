@@ -1,4 +1,4 @@
-use Rattle.std.proofs.Common.{◌≡◌, ◌+◌, ◌/◌, ℕ, List, ◌∷◌, [], length, refl, subst, sym, ap, arith}
+use Rattle.std.proofs.Common.{◌+◌, ◌/◌, ℕ, List, ◌∷◌, [], length, refl, subst, sym, arith}
 use Rattle.std.specs.Prelude.{slice_index}
 use Rattle.gf256.specs.Computed.{equal_below}
 use Rattle.rs_code.specs.Coefficients.{AreFirst}

@@ -1,6 +1,5 @@
 //! Sums of pieces, each times a coefficient.
 ghost use Rattle.std.specs.Prelude.{◌≡◌, ◌<◌, ◌≤◌, ◌+◌, ◌*◌, ℕ, length, slice_index};
-ghost use Rattle.rs_code.specs.Shards.{HasSizes};
 ghost use Rattle.rs_kernel.specs.Blocks.{AreAdded, AreBlockSums, AreGathered, AreStored, AreSums, IsStored};
 ghost use Rattle.rs_kernel.specs.Pieces.{AreWeighed};
 ghost use Rattle.rs_kernel.specs.Weights.{rows_of};
@@ -52,21 +51,30 @@ fn added<const K: usize, const M: usize>(
     more
 }
 
+/// The sums with the pieces at these places in each of them. The terms are written out, so that the sums stay
+/// in registers and nothing is spent on counting.
+macro_rules! sums_with {
+    ($weights:ident, $lines:ident, $at:ident, $($piece:literal)*) => {{
+        let sums = [Lanes::splat(0); M];
+        $(let sums = added($weights, $piece, sums, load(&$lines[$piece], $at));)*
+        sums
+    }};
+}
+
+/// How many pieces a sum has. This row and the places in `sums_of` are the ratio's own.
+pub const PIECES: usize = 10;
+
 /// The sums of `WIDTH` columns from `at` on, one for each row.
 #[inline(always)]
-fn sums_of<const K: usize, const M: usize>(
-    weights: &[[Weight; K]; M],
-    lines: &[[u8; BLOCK]; K],
+fn sums_of<const M: usize>(
+    weights: &[[Weight; PIECES]; M],
+    lines: &[[u8; BLOCK]; PIECES],
     at: usize,
 ) -> [Lanes; M]
     requires { at + WIDTH ≤ BLOCK }
     ensures { AreSums (rows_of weights.now) at lines.now result }
 {
-    let mut sums = [Lanes::splat(0); M];
-    for piece in 0..K {
-        sums = added(weights, piece, sums, load(&lines[piece], at));
-    }
-    sums
+    sums_with!(weights, lines, at, 0 1 2 3 4 5 6 7 8 9)
 }
 
 /// Writes the lanes from one place on, as far as there is room.
@@ -97,16 +105,16 @@ fn store_each<const M: usize>(sums: &[Lanes; M], size: usize, at: usize, out: &m
 
 /// Writes the sums of all columns that were gathered from `at` on.
 #[inline(always)]
-fn weigh_block<const K: usize, const M: usize>(
-    weights: &[[Weight; K]; M],
-    lines: &[[u8; BLOCK]; K],
+fn weigh_block<const M: usize>(
+    weights: &[[Weight; PIECES]; M],
+    lines: &[[u8; BLOCK]; PIECES],
     size: usize,
     at: usize,
     out: &mut [u8],
 )
     requires place { at < size }
     requires out { length out.old ≡ M * size }
-    requires sizes { HasSizes K M }
+    requires rows { M ≤ 32 }
     ensures { AreBlockSums (rows_of weights.now) size at lines.now out.old out.new }
 {
     let count = BLOCK.min(size - at);
@@ -117,20 +125,20 @@ fn weigh_block<const K: usize, const M: usize>(
     }
 }
 
-/// Writes the sums of K pieces of `size` bytes, each times its weight, a sum for each of M rows of weights.
+/// Writes the sums of ten pieces of `size` bytes, each times its weight, a sum for each of M rows of weights.
 /// The sums stand one after the other, as the pieces do.
-pub fn weigh<const K: usize, const M: usize>(
-    weights: &[[Weight; K]; M],
+pub fn weigh<const M: usize>(
+    weights: &[[Weight; PIECES]; M],
     pieces: &[u8],
     size: usize,
     out: &mut [u8],
 )
-    requires pieces { length pieces.now ≡ K * size }
+    requires pieces { length pieces.now ≡ PIECES * size }
     requires out { length out.old ≡ M * size }
-    requires sizes { HasSizes K M }
-    ensures { AreWeighed K (rows_of weights.now) size pieces.now out.new }
+    requires rows { M ≤ 32 }
+    ensures { AreWeighed PIECES (rows_of weights.now) size pieces.now out.new }
 {
-    let mut lines = [[0; BLOCK]; K];
+    let mut lines = [[0; BLOCK]; PIECES];
     for block in 0..size.div_ceil(BLOCK) {
         let at = block * BLOCK;
         gather(pieces, size, at, &mut lines);

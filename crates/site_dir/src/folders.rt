@@ -2,7 +2,7 @@
 ghost use Rattle.std.specs.Prelude.{◌<◌, ◌≤◌, IfOk};
 
 use crate::files;
-use crate::open::OpenFiles;
+use crate::kept::KeptFiles;
 use std::alloc::Global;
 use std::fs::{Files, OpenFile};
 use std::io::{Error, ErrorKind, Print, Write};
@@ -24,7 +24,7 @@ const HERE: &str = ".";
 pub struct Folders<R: Files + Drop> {
     rt: R,
     alloc: Global,
-    kept: OpenFiles<R::File>,
+    kept: KeptFiles<R::File>,
     // by server, whether a name came, went or changed and may not last yet
     is_name_new: [bool; 64],
 }
@@ -63,7 +63,8 @@ fn sync_file<R: Files>(rt: &R, path: Path<'_>) -> io::Result<()> {
 }
 
 impl<R: Files<File = fs::File> + AllocGlobal + Print + Clone + Drop> Folders<R> {
-    ghost use Rattle.std.specs.Prelude.{◌≡◌, ◌<◌, ◌≤◌, length, IfOk};
+    ghost use Rattle.std.specs.Prelude.{◌≡◌, ◌<◌, ◌≤◌, IfOk};
+    ghost use Rattle.site_dir.specs.Kept.{IsAt};
 
     /// The folders, with those made that are missing, and their number. All that is found in them lasts from
     /// now on.
@@ -79,7 +80,7 @@ impl<R: Files<File = fs::File> + AllocGlobal + Print + Clone + Drop> Folders<R> 
         let mut folders = Folders {
             rt,
             alloc,
-            kept: OpenFiles::new(alloc),
+            kept: KeptFiles::new(alloc),
             is_name_new: [false; 64],
         };
         for server in 0..servers {
@@ -113,10 +114,10 @@ impl<R: Files<File = fs::File> + AllocGlobal + Print + Clone + Drop> Folders<R> 
         Ok(())
     }
 
-    // Where a file stands among those that are open. It may be made.
+    // Where a file stands among those that are kept. It may be made.
     fn opened(&mut self, server: u32, name: &str, is_made: bool) -> io::Result<usize>
         requires { server < 64 }
-        ensures { IfOk result (λ at. at < length self.new.kept.files.items) }
+        ensures { IfOk result (λ at. IsAt (server, name.now) self.new.kept.files.items at) }
     {
         if let Some(at) = self.kept.position(server, name) {
             return Ok(at);

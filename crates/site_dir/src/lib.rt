@@ -6,7 +6,7 @@
 mod clock;
 mod files;
 mod folders;
-mod open;
+mod kept;
 mod site;
 mod source;
 mod tally;

@@ -1,5 +1,5 @@
 // The one volume of this stage, which is made where no file stands.
-ghost use Rattle.std.specs.Prelude.{◌≡◌, ◌≤◌, IsTrue};
+ghost use Rattle.std.specs.Prelude.{◌≡◌, ◌≤◌, ◌^◌, IsTrue};
 ghost use Rattle.world_model.specs.Sizes.{Fits};
 ghost use Rattle.weed_shell.specs.Statuses.{status_of, status_of_get};
 
@@ -16,9 +16,6 @@ const VOLUME: u32 = 1;
 
 const SERVER: u32 = 0;
 
-/// The most bytes of the data file.
-const LIMIT: u64 = 31_457_280_000;
-
 /// The most bytes of a needle's data.
 const MAX_DATA: usize = 1 << 21;
 
@@ -28,16 +25,25 @@ const PUT_WORDS: usize = 5;
 #[derive(Drop)]
 pub(crate) struct FirstVolume {
     volume: DatVolume,
+    // the most bytes of the data file
+    limit: u64,
     ghost home: { volume.server ≡ 0 },
-    ghost within: { volume.used ≤ 31457280000 },
+    ghost within: { volume.used ≤ limit },
+    ghost limited: { limit ≤ 2 ^ 35 },
 }
 
 impl FirstVolume {
     ghost use Rattle.std.specs.Prelude.{◌<◌, IfOk, IfErr, IfSome};
     ghost use Rattle.weed_shell.specs.Causes.{AreLater, IsCausedBySite, IsRefusal};
+    ghost use Rattle.weed_shell.specs.Words.{IsLimit};
 
     /// Makes the volume on an empty site. Any file is one that this program does not read yet.
-    pub(crate) fn open<T: Site>(alloc: Global, site: &mut T) -> Result<FirstVolume, Status>
+    pub(crate) fn open<T: Site>(
+        alloc: Global,
+        site: &mut T,
+        limit: u64,
+    ) -> Result<FirstVolume, Status>
+        requires { IsLimit limit }
         ensures caused { IfErr result (IsCausedBySite (T.counts site.old) (T.counts site.new)) }
         ensures later { AreLater (T.counts site.old) (T.counts site.new) }
         ensures some { 0 < T.servers site.new }
@@ -52,7 +58,7 @@ impl FirstVolume {
             }
         }
         match DatVolume::create(alloc, site, SERVER, VOLUME) {
-            Ok(volume) => Ok(FirstVolume { volume }),
+            Ok(volume) => Ok(FirstVolume { volume, limit }),
             Err(fault) => Err(volume_status(fault)),
         }
     }
@@ -116,7 +122,7 @@ impl FirstVolume {
         ensures servers { T.servers site.new ≡ T.servers site.old }
         ensures refused { IfOk result (λ reply. IsTrue T.tells → IsRefusal reply → (T.disk site.new ≡ T.disk site.old) × (self.new ≡ self.old)) }
     {
-        if self.volume.used() + record_length(record_size(needle)) > LIMIT {
+        if self.volume.used() + record_length(record_size(needle)) > self.limit {
             return Ok(Reply::Refused(Refusal::Full));
         }
         match self.volume.cookie(alloc, site, needle.id) {

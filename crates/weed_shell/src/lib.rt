@@ -3,8 +3,10 @@
 
 mod first_volume;
 mod lines;
+mod numbers;
 mod run;
 mod status;
+mod words;
 
 pub use run::weed;
 pub use status::Status;

@@ -1,6 +1,9 @@
 // The lines of a source.
-ghost use Rattle.std.specs.Prelude.{◌≡◌, ◌+◌, ◌^◌, ◌≤◌, length};
+ghost use Rattle.std.specs.Prelude.{◌≡◌, ◌+◌, ◌^◌, ◌≤◌, ◌==◌, length, [], MatchResult};
+ghost use Rattle.std.specs.List.{position_or_len, prefix_len};
+ghost use Rattle.weed_shell.specs.NextLine.{is_feed};
 
+use script_text::without_return;
 use site_model::Source;
 use std::alloc::{AllocError, Global};
 
@@ -52,13 +55,28 @@ enum Blankness {
 }
 
 impl Blankness {
-    fn after(self, part: &[u8]) -> Blankness {
-        let spaces = part.iter().take_while(|byte| **byte == SPACE).count();
-        match (self, &part[spaces..]) {
-            (_, []) if spaces == 0 => self,
-            (Blankness::Spaces, []) => Blankness::Spaces,
-            (Blankness::Spaces, [CARRIAGE_RETURN]) => Blankness::SpacesAndReturn,
+    ghost use Rattle.weed_shell.specs.KeptPart.{blankness_after, blankness_of_rest};
+
+    fn after(self, part: &[u8]) -> Blankness
+        ensures { result ≡ blankness_after self part.now }
+    {
+        match self {
+            Blankness::Spaces => Blankness::of_rest(&part[spaces(part)..]),
+            _ if part.is_empty() => self,
             _ => Blankness::Other,
+        }
+    }
+
+    // of bytes that begin with no space
+    fn of_rest(rest: &[u8]) -> Blankness
+        ensures { result ≡ blankness_of_rest rest.now }
+    {
+        if rest.is_empty() {
+            Blankness::Spaces
+        } else if rest == [CARRIAGE_RETURN].as_slice() {
+            Blankness::SpacesAndReturn
+        } else {
+            Blankness::Other
         }
     }
 }
@@ -81,11 +99,16 @@ pub(crate) struct Lines {
 }
 
 impl Lines {
-    ghost use Rattle.std.specs.Prelude.{◌≢◌, ◌<◌, IsTrue, IfOk, OnErr, IsErrOf, MatchBool};
+    ghost use Rattle.std.specs.Prelude.{ℕ, ◌≢◌, ◌<◌, List, Some, take, false, IsTrue, IfOk, IfErr, OnOk, OnErr, IsErrOf, MatchBool};
     ghost use Rattle.site_model.specs.Reading.{FaultsRise};
-    ghost use Rattle.weed_shell.specs.Ahead.{work_left};
+    ghost use Rattle.script_text.specs.Lines.{without_return};
+    ghost use Rattle.weed_shell.specs.Ahead.{ahead, chunk_rest, work_left};
+    ghost use Rattle.weed_shell.specs.NextLine.{EndsAt, IsTaken, StopsAt, TakesLine};
+    ghost use Rattle.weed_shell.specs.KeptPart.{IsAtEnd, IsKind, TakesPart, TakesRaw, blankness_after, max_kept};
 
-    pub(crate) fn new(alloc: Global) -> Result<Lines, AllocError> {
+    pub(crate) fn new(alloc: Global) -> Result<Lines, AllocError>
+        ensures { IfOk result (λ lines. (chunk_rest lines ≡ []) × (lines.taken ≡ 0)) }
+    {
         Ok(Lines {
             chunk: vec![in alloc; 0; CHUNK]?,
             at: 0,
@@ -97,38 +120,57 @@ impl Lines {
     }
 
     /// The bytes of the last line.
-    pub(crate) fn line(&self) -> &[u8] {
+    pub(crate) fn line(&self) -> &[u8]
+        ensures { result.now ≡ self.now.kept.items }
+    {
         &self.kept
     }
 
-    /// Reads on to the end of the next line.
+    /// Reads on to the end of the next line. It is `TooMuch` where more than 2^48 bytes were taken and no line is left
+    /// of them.
     pub(crate) fn next_line<S: Source>(&mut self, source: &mut S) -> Result<Next, LineStop>
+        ensures line { IfOk result (TakesLine (ahead self.old (S.left source.old)) (ahead self.new (S.left source.new)) self.new.kept.items) }
         ensures goes_on { IfOk result (λ next. next ≢ Next.End → work_left self.new < work_left self.old) }
+        ensures taken { IsTaken self.old.taken self.new.taken (S.taken source.old) (S.taken source.new) }
+        ensures ends { MatchResult result (EndsAt self.new.taken) (StopsAt self.new.taken) }
+        ensures cause { FaultsRise (S.faults source.old) (S.faults source.new) (IsErrOf result LineStop.Source) }
+    {
+        if self.take_line(source)? {
+            Ok(self.kind())
+        } else {
+            Ok(Next::End)
+        }
+    }
+
+    // Takes the bytes of the next line and its end, and answers whether there were any.
+    fn take_line<S: Source>(&mut self, source: &mut S) -> Result<bool, LineStop>
+        ensures line { IfOk result (λ found. (bytes : List ℕ) → ahead self.old (S.left source.old) ≡ Some bytes → TakesRaw bytes (ahead self.new (S.left source.new)) self.new found) }
+        ensures work { IfOk result (λ found. IsTrue found → work_left self.new < work_left self.old) }
+        ensures taken { IsTaken self.old.taken self.new.taken (S.taken source.old) (S.taken source.new) }
+        ensures ends { MatchResult result (λ found. found ≡ false → self.new.taken ≤ 2 ^ 48) (StopsAt self.new.taken) }
         ensures cause { FaultsRise (S.faults source.old) (S.faults source.new) (IsErrOf result LineStop.Source) }
     {
         self.kept.clear();
         self.blankness = Blankness::Spaces;
         while !self.take_part()? {
             if !self.fill(source)? {
-                if self.kept.is_empty() {
-                    return Ok(Next::End);
-                }
-                break;
+                return Ok(!self.kept.is_empty());
             }
         }
-        Ok(self.kind())
+        Ok(true)
     }
 
     // Takes what the chunk has of the line, and answers whether the line ends in it.
     fn take_part(&mut self) -> Result<bool, LineStop>
+        ensures part { IfOk result (TakesPart self.old self.new) }
         ensures work { IfOk result (λ ends. MatchBool ends (work_left self.new + length self.new.kept.items < work_left self.old + length self.old.kept.items) ((work_left self.new + length self.new.kept.items ≤ work_left self.old + length self.old.kept.items) × (self.new.at ≡ self.new.end))) }
+        ensures taken { self.new.taken ≡ self.old.taken }
         ensures memory { OnErr result (result ≡ Err LineStop.Memory) }
     {
         let rest = &self.chunk[self.at..self.end];
-        let (part, ends) = match rest.iter().position(|byte| *byte == LINE_FEED) {
-            Some(length) => (&rest[..length], true),
-            None => (rest, false),
-        };
+        let length = line_length(rest);
+        let ends = length < rest.len();
+        let part = &rest[..length];
         self.blankness = self.blankness.after(part);
         let room = MAX_KEPT - self.kept.len();
         let kept = &part[..part.len().min(room)];
@@ -136,15 +178,19 @@ impl Lines {
             Ok(()) => {}
             Err(_) => return Err(LineStop::Memory),
         }
-        self.at += part.len() + usize::from(ends);
+        self.at += length + usize::from(ends);
         Ok(ends)
     }
 
     // Reads the next chunk, and answers whether there is one.
     fn fill<S: Source>(&mut self, source: &mut S) -> Result<bool, LineStop>
         requires { self.old.at ≡ self.old.end }
+        ensures ahead { OnOk result (ahead self.new (S.left source.new) ≡ ahead self.old (S.left source.old)) }
+        ensures end { IfOk result (λ more. more ≡ false → IsAtEnd (ahead self.new (S.left source.new)) self.new.taken) }
         ensures work { IfOk result (λ more. MatchBool more (work_left self.new < work_left self.old) (work_left self.new ≤ work_left self.old)) }
-        ensures kept { self.new.kept ≡ self.old.kept }
+        ensures kept { (self.new.kept ≡ self.old.kept) × (self.new.blankness ≡ self.old.blankness) }
+        ensures taken { IsTaken self.old.taken self.new.taken (S.taken source.old) (S.taken source.new) }
+        ensures stops { IfErr result (StopsAt self.new.taken) }
         ensures cause { FaultsRise (S.faults source.old) (S.faults source.new) (IsErrOf result LineStop.Source) }
     {
         if self.taken > MAX_SOURCE {
@@ -163,18 +209,36 @@ impl Lines {
 
     // What the line is, without the carriage return at its end.
     fn kind(&mut self) -> Next
-        ensures { work_left self.new ≡ work_left self.old }
+        ensures kind { (line : List ℕ) → self.old.kept.items ≡ take max_kept line → self.old.blankness ≡ blankness_after Blankness.Spaces line → IsKind (without_return line) result self.new.kept.items }
+        ensures rest { (chunk_rest self.new ≡ chunk_rest self.old) × (self.new.taken ≡ self.old.taken) }
+        ensures work { work_left self.new ≡ work_left self.old }
+        ensures goes_on { result ≢ Next.End }
     {
         if self.blankness != Blankness::Other {
             return Next::Blank;
         }
-        if self.kept.last() == Some(&CARRIAGE_RETURN) {
-            self.kept.pop();
-        }
-        if self.kept.len() > MAX_LINE {
+        let length = without_return(&self.kept).len();
+        self.kept.truncate(length);
+        if length > MAX_LINE {
             Next::Long
         } else {
             Next::Line
         }
     }
+}
+
+// How many spaces stand in front.
+fn spaces(text: &[u8]) -> usize
+    ensures count { result ≡ prefix_len (λ b. b == 32) text.now }
+    ensures within { result ≤ length text.now }
+{
+    text.iter().take_while(|byte| **byte == SPACE).count()
+}
+
+// How many bytes stand before the first line feed, or all.
+fn line_length(text: &[u8]) -> usize
+    ensures count { result ≡ position_or_len is_feed text.now }
+    ensures within { result ≤ length text.now }
+{
+    text.iter().take_while(|byte| **byte != LINE_FEED).count()
 }

@@ -1,11 +1,13 @@
-ghost use Rattle.std.specs.Prelude.{◌≡◌, ◌≢◌, ◌<◌, ◌≤◌, ◌↔◌, ℕ, [], IfOk, IfErr, IsTrue};
+ghost use Rattle.std.specs.Prelude.{◌≡◌, ◌≢◌, ◌<◌, ◌≤◌, ◌↔◌, ℕ, map, string_bytes, IfOk, IfErr, IsTrue};
 ghost use Rattle.site_model.specs.Counts.{Counts, Rose};
 ghost use Rattle.weed_shell.specs.Ahead.{work_left};
 ghost use Rattle.weed_shell.specs.Causes.{AreLater, IsCaused, IsCausedBySite};
+ghost use Rattle.weed_shell.specs.Words.{IsLimit, served_settings};
 
 use crate::Status;
 use crate::first_volume::FirstVolume;
 use crate::lines::{LineStop, Lines, Next};
+use crate::words::{Settings, served_settings};
 use script_text::print_reply;
 use site_model::{Clock, Site, Source};
 use std::alloc::Global;
@@ -13,8 +15,9 @@ use world_model::types::Reply;
 
 /// Runs the script of the source on the site: says `ready`, and then one reply a line.
 ///
-/// There are no words yet, so any word is `Usage`, and then nothing is called. A status tells of a fault of a server,
-/// of the source or of what is said only where the count of such faults rose in this call.
+/// The words are options, as `--limit=56` or `--limit 56`. It is `Usage` exactly where they are not in the grammar or
+/// ask for a sample, which is not served yet, and then nothing is called. A status tells of a fault of a server, of
+/// the source or of what is said only where the count of such faults rose in this call.
 pub fn weed<S: Source, T: Site, C: Clock>(
     alloc: Global,
     words: &[String],
@@ -22,16 +25,16 @@ pub fn weed<S: Source, T: Site, C: Clock>(
     site: &mut T,
     clock: &mut C,
 ) -> Status
-    ensures usage { result ≡ Status.Usage ↔ (words.now ≢ []) }
-    ensures untouched { words.now ≢ [] → site.new ≡ site.old }
+    ensures usage { result ≡ Status.Usage ↔ (served_settings (map string_bytes words.now) ≡ None) }
+    ensures untouched { served_settings (map string_bytes words.now) ≡ None → site.new ≡ site.old }
     ensures fault { (server : ℕ) → result ≡ Status.Fault server → Rose ((T.counts site.old).faults server) ((T.counts site.new).faults server) }
     ensures source_fault { result ≡ Status.SourceFault → Rose (S.faults source.old) (S.faults source.new) }
     ensures say_fault { result ≡ Status.SayFault → Rose (T.counts site.old).say_faults (T.counts site.new).say_faults }
 {
-    if !words.is_empty() {
+    let Some(settings) = served_settings(words) else {
         return Status::Usage;
-    }
-    match serve(alloc, source, site, clock) {
+    };
+    match serve(alloc, &settings, source, site, clock) {
         Ok(()) => Status::Done,
         Err(status) => status,
     }
@@ -39,13 +42,15 @@ pub fn weed<S: Source, T: Site, C: Clock>(
 
 fn serve<S: Source, T: Site, C: Clock>(
     alloc: Global,
+    settings: &Settings,
     source: &mut S,
     site: &mut T,
     clock: &mut C,
 ) -> Result<(), Status>
+    requires { IsLimit settings.now.limit }
     ensures { IfErr result (IsCaused (S.faults source.old) (S.faults source.new) (T.counts site.old) (T.counts site.new)) }
 {
-    let mut volume = FirstVolume::open(alloc, site)?;
+    let mut volume = FirstVolume::open(alloc, site, settings.limit)?;
     let mut lines = match Lines::new(alloc) {
         Ok(lines) => lines,
         Err(_) => return Err(Status::Memory),

@@ -11,8 +11,21 @@ const DAT: &str = "03000000000000000000002a00000000000000010000000e0000000931323
 const IDX: &str = "0000000000000001000000010000000e";
 
 fn run(alloc: Global, site: &mut MemSite, source: &mut MemSource) -> Status {
+    run_with(alloc, &[], site, source)
+}
+
+fn run_with(alloc: Global, words: &[String], site: &mut MemSite, source: &mut MemSource) -> Status {
     let mut clock = FixedClock { now: 0 };
-    weed(alloc, &[], source, site, &mut clock)
+    weed(alloc, words, source, site, &mut clock)
+}
+
+// The words of a text, between spaces.
+fn words_in(alloc: Global, text: &str) -> Result<Vec<String>, Fail> {
+    let mut words = Vec::new(alloc);
+    for word in text.split(' ') {
+        words.push(String::from_str(alloc, word)?)?;
+    }
+    Ok(words)
 }
 
 #[test]
@@ -41,6 +54,73 @@ fn lines_are_refused_with_their_numbers(rt: HostRuntime) -> Result<(), Fail> {
     assert_eq!(rt; run(rt.alloc(), &mut site, &mut source), Status::Done);
     let said = b"ready\nOK\nERR 5 not found\nERR 5 not found\nERR 6 cookie\nERR 1 syntax\n";
     assert_eq!(rt; site.said(), said.as_slice());
+    Ok(())
+}
+
+#[test]
+fn words_that_are_not_in_the_grammar_are_usage(rt: HostRuntime) -> Result<(), Fail> {
+    let refused = [
+        "--large=16 --small=12",
+        "--large=16",
+        "--",
+        "",
+        "--limit=56 --limit=56",
+        "--limit=7",
+        "--limit=34359738369",
+        "--limit=",
+        "--large=",
+        "--limit",
+        "--limit=056",
+        "--limit=+56",
+        "--limit --small 8",
+        "--large=0",
+        "--large=2147483648 --small=1",
+        "--sample=5,100",
+        "--sample=5,0",
+        "--help",
+    ];
+    for text in refused {
+        let words = words_in(rt.alloc(), text)?;
+        let mut site = MemSite::new(rt.alloc(), 1)?;
+        let mut source = MemSource::new(rt.alloc(), SCRIPT)?;
+        let status = run_with(rt.alloc(), &words, &mut site, &mut source);
+        assert_eq!(rt; status, Status::Usage);
+        assert_eq!(rt; site.said(), b"".as_slice());
+    }
+    Ok(())
+}
+
+#[test]
+fn words_of_both_spellings_are_read(rt: HostRuntime) -> Result<(), Fail> {
+    let accepted = [
+        "--limit 56",
+        "--limit=56",
+        "--small=8 --large 16 --limit=34359738368",
+        "--large=1073741824 --small=1073741824",
+    ];
+    for text in accepted {
+        let words = words_in(rt.alloc(), text)?;
+        let mut site = MemSite::new(rt.alloc(), 1)?;
+        let mut source = MemSource::new(rt.alloc(), SCRIPT)?;
+        let status = run_with(rt.alloc(), &words, &mut site, &mut source);
+        assert_eq!(rt; status, Status::Done);
+    }
+    Ok(())
+}
+
+#[test]
+fn a_limit_of_one_record_is_full_at_the_second(rt: HostRuntime) -> Result<(), Fail> {
+    let script =
+        b"put 1 1 0000002a 313233343536373839\nput 1 2 0000002a 313233343536373839\nget 1 1 0000002a\n";
+    let words = words_in(rt.alloc(), "--limit=56")?;
+    let mut site = MemSite::new(rt.alloc(), 1)?;
+    let mut source = MemSource::new(rt.alloc(), script)?;
+    let status = run_with(rt.alloc(), &words, &mut site, &mut source);
+    assert_eq!(rt; status, Status::Done);
+    assert_eq!(rt;
+        site.said(),
+        b"ready\nOK\nERR 12 full\nOK 313233343536373839\n".as_slice()
+    );
     Ok(())
 }
 

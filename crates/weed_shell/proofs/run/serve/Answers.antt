@@ -1,4 +1,4 @@
-use Rattle.std.proofs.Common.{◌≤◌, arith}
+use Rattle.std.proofs.Common.{arith}
 use Rattle.std.proofs.lemmas.Result.{err_from_is_err_and}
 use Rattle.weed_shell.proofs.CauseLaws.{caused_after, caused_by_site, later_on}
 use Rattle.weed_shell.proofs.run.serve.Goals as goal

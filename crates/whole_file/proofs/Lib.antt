@@ -1,3 +1,4 @@
 mod Appending
+mod Counting
 mod Joining
 mod Renaming

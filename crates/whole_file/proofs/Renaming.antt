@@ -1,6 +1,6 @@
 -- How a file is written by a temporary one.
-use Rattle.std.proofs.Common.{◌≡◌, ◌≢◌, ◌⊎◌, inl, inr, ⊎_elim, ℕ, ◌<◌, ◌^◌, Bool, true, false, List, length, Option, Some, None, refl, sym, ◌∙◌, ap, subst}
-use Rattle.site_model.specs.Disk.{File, Place, Files, Image, LeftOf, LeftOfAll, grown, firm_file, synced, Disk, Renames}
+use Rattle.std.proofs.Common.{◌≡◌, ◌≢◌, ◌⊎◌, inl, inr, ⊎_elim, ℕ, ◌<◌, ◌^◌, Bool, true, false, List, Option, Some, None, refl, sym, ◌∙◌, ap, subst}
+use Rattle.site_model.specs.Disk.{File, Place, Files, LeftOf, grown, firm_file, synced, Disk, Renames}
 use Rattle.site_model.specs.Leaves.{Leaves, weaker, now, by_rename}
 use Rattle.site_model.specs.Touches.{Touches, At, touches_on, touches_more, touches_rename, firm_left}
 use Rattle.file_names.specs.declared.Kind.{Kind}

@@ -17,9 +17,10 @@ pub record AppendsFirm (p : Place) (bytes : List ℕ) (old new : Disk) : Type 0 
   pub said : new.said ≡ old.said
   pub others : SameBut p old.files new.files
 
--- A file is removed, if it stands.
+-- A file is removed, if it stands. A stop leaves it as a stop at the start might have left it, or none.
 pub record Clears (p : Place) (old new : Disk) : Type 0 where
   pub touches : Touches (At p) old new
+  pub leaves : Leaves old new (λ image said. LeftOf (old.files p) (image p) ⊎ (image p ≡ None))
   pub either : (new.files p ≡ old.files p) ⊎ (new.files p ≡ None)
 
 -- A stop leaves the file as a stop at the start might have left it, or the new bytes whole. Of a firm file, or of none,

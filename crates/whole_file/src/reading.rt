@@ -1,8 +1,9 @@
 ghost use Rattle.std.specs.Prelude.{◌≡◌, ◌<◌, ◌≤◌, ◌+◌, ◌^◌, ◌⊎◌, IsTrue, IfOk, IfErr, IsErrOf, length, take, drop};
 ghost use Rattle.site_model.specs.Disk.{standing, bytes_of, length_of};
-ghost use Rattle.site_model.specs.Counts.{HasCause};
+ghost use Rattle.site_model.specs.Counts.{HasCause, TakesCalls};
 ghost use Rattle.file_names.specs.Names.{IsKind};
 ghost use Rattle.whole_file.specs.Held.{held, final_place};
+ghost use Rattle.whole_file.specs.Pieces.{read_pieces, widest_piece};
 
 use crate::{FileFault, PIECE};
 use file_names::{FileName, Kind, spell};
@@ -24,6 +25,7 @@ pub fn read_range<T: Site>(
     requires within { IsTrue T.tells → at + count ≤ length_of ((T.disk site.old).files (server, name.now)) }
     ensures bytes { IfOk result (λ bytes. (length bytes.items ≡ count) × (IsTrue T.tells → bytes.items ≡ take count (drop at (bytes_of ((T.disk site.old).files (server, name.now)))))) }
     ensures same { IsTrue T.tells → T.disk site.new ≡ T.disk site.old }
+    ensures calls { TakesCalls (read_pieces count) widest_piece (T.counts site.old) (T.counts site.new) }
     ensures cause { HasCause server (T.counts site.old) (T.counts site.new) (IsErrOf result (FileFault.Fault (record { server = server }))) }
     ensures blame { IfErr result (λ fault. (fault ≡ FileFault.Memory) ⊎ (fault ≡ FileFault.Fault (record { server = server }))) }
     ensures servers { T.servers site.new ≡ T.servers site.old }

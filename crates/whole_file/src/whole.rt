@@ -1,7 +1,8 @@
-ghost use Rattle.std.specs.Prelude.{◌≡◌, ◌≢◌, ◌<◌, ◌⊎◌, IsTrue, OnOk, IfErr, IsErr, IsErrOf, None};
-ghost use Rattle.site_model.specs.Counts.{HasCause};
+ghost use Rattle.std.specs.Prelude.{◌≡◌, ◌≢◌, ◌+◌, ◌<◌, ◌⊎◌, IsTrue, OnOk, IfErr, IsErr, IsErrOf, None, length};
+ghost use Rattle.site_model.specs.Counts.{HasCause, TakesCalls};
 ghost use Rattle.file_names.specs.Names.{IsKind};
 ghost use Rattle.whole_file.specs.Held.{final_place, temp_place};
+ghost use Rattle.whole_file.specs.Pieces.{pieces_of, widest_piece};
 ghost use Rattle.whole_file.specs.Whole.{Clears, WritesWhole, IsWritten};
 
 use crate::{FileFault, append_all};
@@ -14,6 +15,7 @@ pub fn clear<T: Site>(site: &mut T, server: u32, name: &str) -> Result<(), Faile
     requires { server < T.servers site.old }
     ensures effect { IsTrue T.tells → Clears (server, name.now) (T.disk site.old) (T.disk site.new) }
     ensures done { OnOk result (IsTrue T.tells → (T.disk site.new).files (server, name.now) ≡ None) }
+    ensures calls { TakesCalls 2 0 (T.counts site.old) (T.counts site.new) }
     ensures cause { HasCause server (T.counts site.old) (T.counts site.new) (IsErr result) }
     ensures servers { T.servers site.new ≡ T.servers site.old }
     ensures says { (T.counts site.new).say_faults ≡ (T.counts site.old).say_faults }
@@ -39,6 +41,7 @@ pub fn write_whole<T: Site>(
     ensures effect { IsTrue T.tells → WritesWhole (final_place server volume kind) (temp_place server volume kind) bytes.now (T.disk site.old) (T.disk site.new) }
     ensures done { OnOk result (IsTrue T.tells → IsWritten (final_place server volume kind) (temp_place server volume kind) bytes.now (T.disk site.new)) }
     ensures memory { IsErrOf result FileFault.Memory → site.new ≡ site.old }
+    ensures calls { TakesCalls (pieces_of (length bytes.now) + 4) widest_piece (T.counts site.old) (T.counts site.new) }
     ensures cause { HasCause server (T.counts site.old) (T.counts site.new) (IsErrOf result (FileFault.Fault (record { server = server }))) }
     ensures blame { IfErr result (λ fault. (fault ≡ FileFault.Memory) ⊎ (fault ≡ FileFault.Fault (record { server = server }))) }
     ensures servers { T.servers site.new ≡ T.servers site.old }
@@ -69,6 +72,7 @@ fn replace<T: Site>(
     requires differ { name.now ≢ temp.now }
     ensures effect { IsTrue T.tells → WritesWhole (server, name.now) (server, temp.now) bytes.now (T.disk site.old) (T.disk site.new) }
     ensures done { OnOk result (IsTrue T.tells → IsWritten (server, name.now) (server, temp.now) bytes.now (T.disk site.new)) }
+    ensures calls { TakesCalls (pieces_of (length bytes.now) + 4) widest_piece (T.counts site.old) (T.counts site.new) }
     ensures cause { HasCause server (T.counts site.old) (T.counts site.new) (IsErr result) }
     ensures servers { T.servers site.new ≡ T.servers site.old }
     ensures says { (T.counts site.new).say_faults ≡ (T.counts site.old).say_faults }

@@ -1,6 +1,7 @@
-use Rattle.std.proofs.Common.{◌≡◌, ◌∙◌, ◌+◌, ◌-◌, ◌≤◌, ◌++◌, length, take, drop, arith}
+use Rattle.std.proofs.Common.{◌∙◌, ◌+◌, ◌-◌, arith}
 use Rattle.std.proofs.lemmas.Grind.{common_steps}
 use Rattle.site_model.specs.CountLaws.{cause_write, cause_on}
+use Rattle.whole_file.proofs.Counting.{first_sent, next_sent, slice_long}
 use Rattle.whole_file.proofs.Appending.{first_some, first_done, next_some, next_done, slice_fits, slice_joins}
 use Rattle.whole_file.proofs.pieces.append_all.Goals as goal
 
@@ -12,6 +13,7 @@ loop-at-init g c = record {
   within = omega arith;
   servers = c.append.ensures.servers;
   says = c.append.ensures.counts.says;
+  calls = first_sent _ c.min-at.result _ (grind (arith, common_steps)) (grind (arith, common_steps)) c.in_ok-append.ensures.counts;
   cause = cause_write c.in_ok-append.ensures.counts;
   effect = λ told. first_done _ _ _ c.min-at.result _ _ (grind (arith, common_steps)) (grind (arith, common_steps)) (c.append.ensures.effect told) (c.in_ok-append.ensures.done told);
 }
@@ -24,6 +26,7 @@ loop-at-preserved g c = record {
   within = omega arith;
   servers = c.append-in-loop-at.ensures.servers ∙ c.loop-at.invariant.servers;
   says = c.append-in-loop-at.ensures.counts.says ∙ c.loop-at.invariant.says;
+  calls = next_sent _ c.loop-at.at _ _ (omega arith) (grind (arith, slice_long)) (grind (arith, slice_long)) c.loop-at.invariant.calls c.in_ok-append-2.ensures.counts;
   cause = cause_on c.loop-at.invariant.cause (cause_write c.in_ok-append-2.ensures.counts);
   effect = λ told. next_done _ _ _ c.loop-at.at _ _ _ _ (slice_fits _ c.loop-at.at (c.loop-at.at + c.min.result) (omega arith) (omega arith)) (slice_joins _ c.loop-at.at (c.loop-at.at + c.min.result) (omega arith)) (c.loop-at.invariant.effect told) (c.append-in-loop-at.ensures.effect told) (c.in_ok-append-2.ensures.done told);
 }

@@ -2,6 +2,7 @@ use Rattle.std.proofs.Common.{ℕ, List, take, drop, ◌+◌, ◌∙◌, ap, ari
 use Rattle.std.proofs.lemmas.Grind.{common_steps}
 use Rattle.site_model.specs.Disk.{bytes_of}
 use Rattle.site_model.specs.CountLaws.{cause_read, cause_on}
+use Rattle.whole_file.proofs.Counting.{next_read}
 use Rattle.whole_file.proofs.Joining.{piece_joins}
 use Rattle.whole_file.proofs.reading.read_range.Goals as goal
 
@@ -11,6 +12,7 @@ loop-done-preserved g c = record {
   size = grind (arith, common_steps);
   servers = c.read.ensures.servers ∙ c.loop-done.invariant.servers;
   says = c.read.ensures.counts.says ∙ c.loop-done.invariant.says;
+  calls = next_read _ c.loop-done.done _ _ (omega arith) (grind (arith, common_steps)) (grind (arith, common_steps)) c.loop-done.invariant.calls c.in-Ok.ensures.counts;
   cause = cause_on c.loop-done.invariant.cause (cause_read c.in-Ok.ensures.counts);
   same = λ told. c.read.ensures.same told ∙ c.loop-done.invariant.same told;
   read = λ told. piece_joins _ c.loop-done.done c.min.result c.args.at c.deref_mut.result.now c.read.new.out _ _ _

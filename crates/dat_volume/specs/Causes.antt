@@ -15,9 +15,3 @@ abbrev pub ReadBlamesServer : ℕ → GetFault → Type 0
 ReadBlamesServer server (get_fault.Fault device) = device.server ≡ server
 ReadBlamesServer server (get_fault.Damaged what a b) = Unit {0}
 ReadBlamesServer server get_fault.Memory = Unit {0}
-
--- it tells of no device
-abbrev pub IsDamage : GetFault → Type 0
-IsDamage (get_fault.Fault device) = ⊥
-IsDamage (get_fault.Damaged what a b) = Unit {0}
-IsDamage get_fault.Memory = Unit {0}

@@ -1,2 +1,14 @@
 pub mod Causes
+pub mod Chains
+pub mod Entering
+pub mod Needles
 pub mod NewFiles
+pub mod Opening
+pub mod OpeningLaws
+pub mod Places
+pub mod Reading
+pub mod Scanning
+pub mod Shortening
+pub mod WriteLaws
+pub mod Writes
+pub mod Writing

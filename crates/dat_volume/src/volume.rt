@@ -1,16 +1,17 @@
-ghost use Rattle.std.specs.Prelude.{◌<◌, ◌^◌, IfSome};
-ghost use Rattle.world_model.specs.Sizes.{Fits};
-
+use crate::cutting::cut_both;
+use crate::entering::{enter, entry_of, numbers_have_room, settle, take_back};
+use crate::index_file::{ENTRY, read_index};
 use crate::names::{final_name, temp_name};
+use crate::opening::{count_entries, examine};
 use crate::reading::{cookie_at, record_at};
 use crate::writing::{NewNames, append_record, make_files};
 use crate::{GetFault, VolumeFault};
 use file_names::Kind;
 use needle_map::NeedleMap;
 use needle_record::{Record, record_size, write_record};
-use site_model::{DeviceFault, Site};
+use site_model::{DeviceFault, OpenFault, Site};
 use std::alloc::Global;
-use volume_forms::{Entry, SuperBlock, write_entry, write_super};
+use volume_forms::{SuperBlock, write_entry, write_super};
 use wire_num::record_length;
 
 /// The super block of a new volume.
@@ -24,12 +25,6 @@ const NEW_BLOCK: SuperBlock = SuperBlock {
 /// The bytes of a super block.
 const SUPER: u64 = 8;
 
-/// Places in an index are counted in units of so many bytes.
-const UNIT: u64 = 8;
-
-/// The size in the entry of a deletion.
-const DELETION: i32 = -1;
-
 /// A plain volume at a server: the index in memory, and the length of the data file.
 #[derive(Drop)]
 pub struct DatVolume {
@@ -40,12 +35,17 @@ pub struct DatVolume {
 }
 
 impl DatVolume {
-    ghost use Rattle.std.specs.Prelude.{◌≡◌, ◌+◌, ◌<◌, ◌≤◌, ◌^◌, IsTrue, IfSome, IfOk, IfErr, IsErrOf, OnOk, OnErr};
-    ghost use Rattle.std.specs.FinMap.{empty};
-    ghost use Rattle.site_model.specs.Counts.{HasCause};
+    ghost use Rattle.std.specs.Prelude.{◌≡◌, ◌≢◌, ◌+◌, ◌<◌, ◌≤◌, ◌^◌, IsTrue, IsSome, IfSome, IfOk, IfErr, IsErrOf, OnOk, OnErr, MatchResult, List, Ok, length};
+    ghost use Rattle.std.specs.FinMap.{empty, get};
+    ghost use Rattle.site_model.specs.Counts.{HasCause, TakesCalls};
     ghost use Rattle.world_model.specs.Sizes.{Fits};
     ghost use Rattle.needle_record.specs.Spelling.{length_of_record};
+    ghost use Rattle.needle_record.specs.Records.{Placed, fold_records};
     ghost use Rattle.dat_volume.specs.Causes.{BlamesServer, ReadBlamesServer};
+    ghost use Rattle.dat_volume.specs.Places.{dat_in, idx_in, idx_place};
+    ghost use Rattle.dat_volume.specs.Writes.{NoneStands, Creates, IsCreated, Puts, IsPut, index_with};
+    ghost use Rattle.dat_volume.specs.Needles.{header_damage, record_damage, IsRecordAt, IsCookieAt, TellsDamage, HasDifference, BeginsWith, IsNeedle, IsCookie, IsNoDamage};
+    ghost use Rattle.dat_volume.specs.Opening.{counted, KeepsLengths, TellsCount, TellsRule, Blames, Opens, IsOpened, Trims, AreTrimmed};
 
     /// Makes a volume without needles. No file of the volume stands at the server.
     pub fn create<T: Site>(
@@ -55,7 +55,10 @@ impl DatVolume {
         volume: u32,
     ) -> Result<DatVolume, VolumeFault>
         requires server { server < T.servers site.old }
-        ensures made { IfOk result (λ made. (made.server ≡ server) × (made.volume ≡ volume) × (made.index ≡ empty) × (made.used ≡ 8)) }
+        ensures made { IfOk result (λ made. made ≡ record { server = server; volume = volume; index = empty; used = 8 }) }
+        ensures effect { IsTrue T.tells → Creates server volume (T.disk site.old) (T.disk site.new) }
+        ensures done { OnOk result (IsTrue T.tells → NoneStands server volume (T.disk site.old).files → IsCreated server volume (T.disk site.new).files) }
+        ensures memory { IsErrOf result VolumeFault.Memory → site.new ≡ site.old }
         ensures cause { HasCause server (T.counts site.old) (T.counts site.new) (IsErrOf result (VolumeFault.Fault (record { server = server }))) }
         ensures blame { IfErr result (BlamesServer server) }
         ensures servers { T.servers site.new ≡ T.servers site.old }
@@ -78,6 +81,119 @@ impl DatVolume {
         }
     }
 
+    /// Opens the volume whose index stands at the server. The tests are those of `check`, and both files are cut to
+    /// the lengths that it answers. All memory is taken before the first cut. On `Memory` and `Unsound` nothing has
+    /// changed.
+    pub fn open<T: Site>(
+        alloc: Global,
+        site: &mut T,
+        server: u32,
+        volume: u32,
+    ) -> Result<DatVolume, OpenFault>
+        requires server { server < T.servers site.old }
+        requires stands { IsTrue T.tells → IsSome ((T.disk site.old).files (idx_place server volume)) }
+        ensures value { IfOk result (λ opened. (opened.server ≡ server) × (opened.volume ≡ volume)) }
+        ensures effect { IsTrue T.tells → Opens server volume (T.disk site.old) (T.disk site.new) }
+        ensures done { IfOk result (λ opened. IsTrue T.tells → IsOpened server volume opened (T.disk site.old).files (T.disk site.new).files) }
+        ensures unsound { IfErr result (λ fault. Blames server volume fault × (IsTrue T.tells → TellsRule volume (dat_in (T.disk site.old).files server volume) (idx_in (T.disk site.old).files server volume) fault)) }
+        ensures unchanged { IsTrue T.tells → IfErr result (λ fault. fault ≢ OpenFault.Fault server → T.disk site.new ≡ T.disk site.old) }
+        ensures cause { HasCause server (T.counts site.old) (T.counts site.new) (IsErrOf result (OpenFault.Fault server)) }
+        ensures servers { T.servers site.new ≡ T.servers site.old }
+        ensures says { (T.counts site.new).say_faults ≡ (T.counts site.old).say_faults }
+    {
+        let dat = final_name(alloc, volume, Kind::Dat)?;
+        let idx = final_name(alloc, volume, Kind::Idx)?;
+        let kept = examine(alloc, site, server, volume, &dat, &idx)?;
+        let index_end = kept.count * ENTRY as u64;
+        let index = read_index(alloc, site, server, &idx, index_end)?;
+        match cut_both(site, server, &dat, kept.end, &idx, index_end) {
+            Ok(()) => Ok(DatVolume {
+                server,
+                volume,
+                index,
+                used: kept.end,
+            }),
+            Err(_) => Err(OpenFault::Fault { server }),
+        }
+    }
+
+    /// The lengths of the data file and of the index to keep. The offsets of the index's entries are to follow each
+    /// other, and their sizes to be those of records, but perhaps of the last entry. Of the last two entries the
+    /// records are looked at: the last but one is to have its own, and the last counts only where it has. `Unsound`
+    /// has rule 1 where this is false, and else rule 3 where the super block isn't accepted.
+    pub fn check<T: Site>(
+        alloc: Global,
+        site: &mut T,
+        server: u32,
+        volume: u32,
+    ) -> Result<(u64, u64), OpenFault>
+        requires server { server < T.servers site.old }
+        requires stands { IsTrue T.tells → IsSome ((T.disk site.old).files (idx_place server volume)) }
+        ensures lengths { IfOk result (λ lengths. IsTrue T.tells → KeepsLengths (dat_in (T.disk site.old).files server volume) (idx_in (T.disk site.old).files server volume) lengths) }
+        ensures unsound { IfErr result (λ fault. Blames server volume fault × (IsTrue T.tells → TellsRule volume (dat_in (T.disk site.old).files server volume) (idx_in (T.disk site.old).files server volume) fault)) }
+        ensures same { IsTrue T.tells → T.disk site.new ≡ T.disk site.old }
+        ensures cause { HasCause server (T.counts site.old) (T.counts site.new) (IsErrOf result (OpenFault.Fault server)) }
+        ensures servers { T.servers site.new ≡ T.servers site.old }
+        ensures says { (T.counts site.new).say_faults ≡ (T.counts site.old).say_faults }
+    {
+        let dat = final_name(alloc, volume, Kind::Dat)?;
+        let idx = final_name(alloc, volume, Kind::Idx)?;
+        let kept = examine(alloc, site, server, volume, &dat, &idx)?;
+        Ok((kept.end, kept.count * ENTRY as u64))
+    }
+
+    /// How many entries of the index are kept, by the tests of `check`, whatever the super block is. `Unsound` has
+    /// rule 1.
+    pub fn count<T: Site>(
+        alloc: Global,
+        site: &mut T,
+        server: u32,
+        volume: u32,
+    ) -> Result<u64, OpenFault>
+        requires server { server < T.servers site.old }
+        requires stands { IsTrue T.tells → IsSome ((T.disk site.old).files (idx_place server volume)) }
+        ensures count { IfOk result (λ count. IsTrue T.tells → counted (dat_in (T.disk site.old).files server volume) (idx_in (T.disk site.old).files server volume) ≡ Ok count) }
+        ensures unsound { IfErr result (λ fault. Blames server volume fault × (IsTrue T.tells → TellsCount volume (dat_in (T.disk site.old).files server volume) (idx_in (T.disk site.old).files server volume) fault)) }
+        ensures same { IsTrue T.tells → T.disk site.new ≡ T.disk site.old }
+        ensures cause { HasCause server (T.counts site.old) (T.counts site.new) (IsErrOf result (OpenFault.Fault server)) }
+        ensures servers { T.servers site.new ≡ T.servers site.old }
+        ensures says { (T.counts site.new).say_faults ≡ (T.counts site.old).say_faults }
+    {
+        let dat = final_name(alloc, volume, Kind::Dat)?;
+        let idx = final_name(alloc, volume, Kind::Idx)?;
+        let kept = count_entries(alloc, site, server, volume, &dat, &idx)?;
+        Ok(kept.count)
+    }
+
+    /// Cuts the data file and then the index to these lengths, which `check` gave. A file that ends there stays as it
+    /// is. All memory is taken before the first cut.
+    pub fn trim<T: Site>(
+        alloc: Global,
+        site: &mut T,
+        server: u32,
+        volume: u32,
+        dat_length: u64,
+        idx_length: u64,
+    ) -> Result<(), VolumeFault>
+        requires server { server < T.servers site.old }
+        requires dat_within { IsTrue T.tells → dat_length ≤ length (dat_in (T.disk site.old).files server volume) }
+        requires idx_within { IsTrue T.tells → idx_length ≤ length (idx_in (T.disk site.old).files server volume) }
+        ensures effect { IsTrue T.tells → Trims server volume dat_length idx_length (T.disk site.old) (T.disk site.new) }
+        ensures done { OnOk result (IsTrue T.tells → AreTrimmed server volume dat_length idx_length (T.disk site.old).files (T.disk site.new).files) }
+        ensures memory { IsErrOf result VolumeFault.Memory → site.new ≡ site.old }
+        ensures cause { HasCause server (T.counts site.old) (T.counts site.new) (IsErrOf result (VolumeFault.Fault (record { server = server }))) }
+        ensures blame { IfErr result (BlamesServer server) }
+        ensures servers { T.servers site.new ≡ T.servers site.old }
+        ensures says { (T.counts site.new).say_faults ≡ (T.counts site.old).say_faults }
+    {
+        let dat = final_name(alloc, volume, Kind::Dat)?;
+        let idx = final_name(alloc, volume, Kind::Idx)?;
+        match cut_both(site, server, &dat, dat_length, &idx, idx_length) {
+            Ok(()) => Ok(()),
+            Err(_) => Err(VolumeFault::Fault(DeviceFault { server })),
+        }
+    }
+
     /// Appends the record, of a needle or of a deletion, and then its entry. All memory is taken before the first
     /// write. On `Memory` nothing has changed.
     pub fn put<T: Site>(
@@ -89,9 +205,12 @@ impl DatVolume {
         requires server { self.old.server < T.servers site.old }
         requires fits { IfSome needle.now.content Fits }
         requires room { self.old.used + length_of_record needle.now ≤ 2 ^ 35 }
-        ensures used { OnOk result (self.new.used ≡ self.old.used + length_of_record needle.now) }
-        ensures kept { OnErr result (self.new.used ≡ self.old.used) }
-        ensures place { (self.new.server ≡ self.old.server) × (self.new.volume ≡ self.old.volume) }
+        ensures ok { OnOk result (self.new ≡ record { server = self.old.server; volume = self.old.volume; index = index_with self.old.index self.old.used needle.now; used = self.old.used + length_of_record needle.now }) }
+        ensures err { OnErr result (self.new ≡ self.old) }
+        ensures effect { IsTrue T.tells → Puts self.old.server self.old.volume self.old.used needle.now (T.disk site.old) (T.disk site.new) }
+        ensures done { OnOk result (IsTrue T.tells → IsPut self.old.server self.old.volume self.old.used needle.now (T.disk site.old).files (T.disk site.new).files) }
+        ensures memory { IsErrOf result VolumeFault.Memory → site.new ≡ site.old }
+        ensures calls { length_of_record needle.now ≤ 65536 → TakesCalls 4 65536 (T.counts site.old) (T.counts site.new) }
         ensures cause { HasCause self.old.server (T.counts site.old) (T.counts site.new) (IsErrOf result (VolumeFault.Fault (record { server = self.old.server }))) }
         ensures blame { IfErr result (BlamesServer self.old.server) }
         ensures servers { T.servers site.new ≡ T.servers site.old }
@@ -101,19 +220,18 @@ impl DatVolume {
         let idx = final_name(alloc, self.volume, Kind::Idx)?;
         let mut record = Vec::new(alloc);
         write_record(needle, &mut record)?;
+        numbers_have_room(needle);
         let entry = entry_of(needle, self.used);
-        if needle.content.is_some() {
-            self.index.put(entry)?;
-        }
+        let earlier = self.index.get(needle.id);
+        enter(&mut self.index, needle, entry)?;
         let written = append_record(site, self.server, &dat, &idx, &record, &write_entry(&entry));
         if written.is_err() {
+            take_back(&mut self.index, needle.id, earlier);
             return Err(VolumeFault::Fault(DeviceFault {
                 server: self.server,
             }));
         }
-        if needle.content.is_none() {
-            self.index.remove(needle.id);
-        }
+        settle(&mut self.index, needle);
         self.used += record_length(record_size(needle));
         Ok(())
     }
@@ -126,6 +244,8 @@ impl DatVolume {
         id: u64,
     ) -> Result<Option<Record>, GetFault>
         requires server { self.now.server < T.servers site.old }
+        ensures answer { MatchResult result (λ found. IsTrue T.tells → IsRecordAt (dat_in (T.disk site.old).files self.now.server self.now.volume) (get self.now.index id) found) (λ fault. HasDifference fault × (IsTrue T.tells → TellsDamage (record_damage (dat_in (T.disk site.old).files self.now.server self.now.volume)) (get self.now.index id) fault)) }
+        ensures needle { IsTrue T.tells → (ps : List Placed) → BeginsWith (dat_in (T.disk site.old).files self.now.server self.now.volume) self.now.index self.now.used ps → MatchResult result (λ found. IsNeedle id found (get (fold_records ps).needles id)) IsNoDamage }
         ensures same { IsTrue T.tells → T.disk site.new ≡ T.disk site.old }
         ensures cause { HasCause self.now.server (T.counts site.old) (T.counts site.new) (IsErrOf result (GetFault.Fault (record { server = self.now.server }))) }
         ensures blame { IfErr result (ReadBlamesServer self.now.server) }
@@ -148,6 +268,8 @@ impl DatVolume {
         id: u64,
     ) -> Result<Option<u32>, GetFault>
         requires server { self.now.server < T.servers site.old }
+        ensures answer { MatchResult result (λ found. IsTrue T.tells → IsCookieAt (dat_in (T.disk site.old).files self.now.server self.now.volume) (get self.now.index id) found) (λ fault. HasDifference fault × (IsTrue T.tells → TellsDamage (header_damage (dat_in (T.disk site.old).files self.now.server self.now.volume)) (get self.now.index id) fault)) }
+        ensures needle { IsTrue T.tells → (ps : List Placed) → BeginsWith (dat_in (T.disk site.old).files self.now.server self.now.volume) self.now.index self.now.used ps → MatchResult result (λ found. IsCookie found (get (fold_records ps).needles id)) IsNoDamage }
         ensures same { IsTrue T.tells → T.disk site.new ≡ T.disk site.old }
         ensures cause { HasCause self.now.server (T.counts site.old) (T.counts site.new) (IsErrOf result (GetFault.Fault (record { server = self.now.server }))) }
         ensures blame { IfErr result (ReadBlamesServer self.now.server) }
@@ -186,21 +308,5 @@ impl DatVolume {
             index,
             used,
         }
-    }
-}
-
-// The entry of a record at this place.
-fn entry_of(needle: &Record, place: u64) -> Entry
-    requires fits { IfSome needle.now.content Fits }
-    requires within { place < 2 ^ 35 }
-{
-    let size = match needle.content {
-        Some(_) => record_size(needle) as i32,
-        None => DELETION,
-    };
-    Entry {
-        id: needle.id,
-        offset: (place / UNIT) as u32,
-        size,
     }
 }

@@ -1,0 +1,229 @@
+// The tests of a volume's two files, by which it is told how much of them to keep.
+ghost use Rattle.std.specs.Prelude.{◌≡◌, ◌⊎◌, ◌*◌, ◌<◌, ◌≤◌, ◌^◌, List, take, IsTrue, IfOk, IfErr, IsErr, IsErrOf, MatchBool, Ok};
+ghost use Rattle.site_model.specs.Disk.{bytes_of, length_of};
+ghost use Rattle.site_model.specs.Counts.{HasCause};
+ghost use Rattle.volume_forms.specs.declared.Entry.{Entry};
+ghost use Rattle.volume_forms.specs.Forms.{has_super};
+ghost use Rattle.volume_forms.specs.Kept.{kept_length};
+ghost use Rattle.dat_volume.specs.Opening.{has_record, accepted, counted, tested, end_by, Blames, TellsCount, TellsRule};
+ghost use Rattle.dat_volume.specs.OpeningLaws.{PassesEntries};
+ghost use Rattle.dat_volume.specs.Scanning.{HasChain, FailsEntries, unless_damaged};
+
+use crate::GetFault;
+use crate::chain::{Chain, end_behind, has_size};
+use crate::index_file::{ENTRY, piece_buffer, scan};
+use crate::reading::{cookie_at, record_at};
+use site_model::{DeviceFault, OpenFault, Site};
+use std::alloc::Global;
+use volume_forms::{Entry, read_super};
+
+/// The rule that an index follows the records.
+const RULE_RECORDS: u8 = 1;
+
+/// The rule that a data file has an accepted super block.
+const RULE_SUPER: u8 = 3;
+
+/// The bytes of a super block.
+const SUPER: usize = 8;
+
+/// No record ends behind this.
+const MAX_DAT: u64 = 1 << 35;
+
+/// How much is kept: the number of entries, and where their records end.
+#[derive(Clone, Copy)]
+pub(crate) struct Kept {
+    pub count: u64,
+    pub end: u64,
+}
+
+/// Tests the index and the data file of these names: by rule 1, and then the super block.
+pub(crate) fn examine<T: Site>(
+    alloc: Global,
+    site: &mut T,
+    server: u32,
+    volume: u32,
+    dat: &str,
+    idx: &str,
+) -> Result<Kept, OpenFault>
+    requires server { server < T.servers site.old }
+    ensures kept { IfOk result (λ kept. IsTrue T.tells → (tested (bytes_of ((T.disk site.old).files (server, dat.now))) (bytes_of ((T.disk site.old).files (server, idx.now))) ≡ Ok kept.count) × (kept.end ≡ end_by (bytes_of ((T.disk site.old).files (server, idx.now))) kept.count)) }
+    ensures fits { IfOk result (λ kept. 16 * kept.count < 2 ^ 64) }
+    ensures unsound { IfErr result (λ fault. Blames server volume fault × (IsTrue T.tells → TellsRule volume (bytes_of ((T.disk site.old).files (server, dat.now))) (bytes_of ((T.disk site.old).files (server, idx.now))) fault)) }
+    ensures same { IsTrue T.tells → T.disk site.new ≡ T.disk site.old }
+    ensures cause { HasCause server (T.counts site.old) (T.counts site.new) (IsErrOf result (OpenFault.Fault server)) }
+    ensures servers { T.servers site.new ≡ T.servers site.old }
+    ensures says { (T.counts site.new).say_faults ≡ (T.counts site.old).say_faults }
+{
+    let kept = count_entries(alloc, site, server, volume, dat, idx)?;
+    if !has_super(site, server, dat)? {
+        return Err(OpenFault::Unsound {
+            volume,
+            rule: RULE_SUPER,
+        });
+    }
+    Ok(kept)
+}
+
+/// Tests them by rule 1 alone.
+pub(crate) fn count_entries<T: Site>(
+    alloc: Global,
+    site: &mut T,
+    server: u32,
+    volume: u32,
+    dat: &str,
+    idx: &str,
+) -> Result<Kept, OpenFault>
+    requires server { server < T.servers site.old }
+    ensures kept { IfOk result (λ kept. IsTrue T.tells → (counted (bytes_of ((T.disk site.old).files (server, dat.now))) (bytes_of ((T.disk site.old).files (server, idx.now))) ≡ Ok kept.count) × (kept.end ≡ end_by (bytes_of ((T.disk site.old).files (server, idx.now))) kept.count)) }
+    ensures fits { IfOk result (λ kept. 16 * kept.count < 2 ^ 64) }
+    ensures unsound { IfErr result (λ fault. Blames server volume fault × (IsTrue T.tells → TellsCount volume (bytes_of ((T.disk site.old).files (server, dat.now))) (bytes_of ((T.disk site.old).files (server, idx.now))) fault)) }
+    ensures same { IsTrue T.tells → T.disk site.new ≡ T.disk site.old }
+    ensures cause { HasCause server (T.counts site.old) (T.counts site.new) (IsErrOf result (OpenFault.Fault server)) }
+    ensures servers { T.servers site.new ≡ T.servers site.old }
+    ensures says { (T.counts site.new).say_faults ≡ (T.counts site.old).say_faults }
+{
+    let size = size_of(site, server, idx)?;
+    let mut buffer = piece_buffer(alloc)?;
+    let chain = scan(site, server, idx, size - size % ENTRY as u64, &mut buffer)?;
+    if !passes_entries(alloc, site, server, dat, chain)? {
+        return Err(OpenFault::Unsound {
+            volume,
+            rule: RULE_RECORDS,
+        });
+    }
+    accept(alloc, site, server, dat, chain)
+}
+
+// All entries but the last follow each other, and the last but one has its record.
+fn passes_entries<T: Site>(
+    alloc: Global,
+    site: &mut T,
+    server: u32,
+    dat: &str,
+    chain: Chain,
+) -> Result<bool, OpenFault>
+    requires server { server < T.servers site.old }
+    ensures passes { IfOk result (λ passes. IsTrue T.tells → (es : List Entry) → HasChain es chain → MatchBool passes (PassesEntries (bytes_of ((T.disk site.old).files (server, dat.now))) es) (FailsEntries (bytes_of ((T.disk site.old).files (server, dat.now))) es)) }
+    ensures same { IsTrue T.tells → T.disk site.new ≡ T.disk site.old }
+    ensures cause { HasCause server (T.counts site.old) (T.counts site.new) (IsErrOf result (OpenFault.Fault server)) }
+    ensures blame { IfErr result (λ fault. (fault ≡ OpenFault.Memory) ⊎ (fault ≡ OpenFault.Fault server)) }
+    ensures servers { T.servers site.new ≡ T.servers site.old }
+    ensures says { (T.counts site.new).say_faults ≡ (T.counts site.old).say_faults }
+{
+    if chain.chained < chain.count.saturating_sub(1) {
+        return Ok(false);
+    }
+    match chain.before {
+        Some(entry) => has_record(alloc, site, server, dat, entry),
+        None => Ok(true),
+    }
+}
+
+// What is kept of files that pass the tests: the last entry only where it follows and has its record.
+fn accept<T: Site>(
+    alloc: Global,
+    site: &mut T,
+    server: u32,
+    dat: &str,
+    chain: Chain,
+) -> Result<Kept, OpenFault>
+    requires server { server < T.servers site.old }
+    ensures kept { IfOk result (λ kept. IsTrue T.tells → (es : List Entry) → HasChain es chain → (kept.count ≡ accepted (bytes_of ((T.disk site.old).files (server, dat.now))) es) × (kept.end ≡ kept_length (take kept.count es))) }
+    ensures fewer { IfOk result (λ kept. kept.count ≤ chain.count) }
+    ensures same { IsTrue T.tells → T.disk site.new ≡ T.disk site.old }
+    ensures cause { HasCause server (T.counts site.old) (T.counts site.new) (IsErrOf result (OpenFault.Fault server)) }
+    ensures blame { IfErr result (λ fault. (fault ≡ OpenFault.Memory) ⊎ (fault ≡ OpenFault.Fault server)) }
+    ensures servers { T.servers site.new ≡ T.servers site.old }
+    ensures says { (T.counts site.new).say_faults ≡ (T.counts site.old).say_faults }
+{
+    if chain.chained == chain.count
+        && let Some(entry) = chain.last
+        && has_record(alloc, site, server, dat, entry)?
+    {
+        return Ok(Kept {
+            count: chain.count,
+            end: end_behind(chain.last),
+        });
+    }
+    Ok(Kept {
+        count: chain.count.saturating_sub(1),
+        end: end_behind(chain.before),
+    })
+}
+
+// Whether the record at the entry's place is the entry's. It is read whole only where its header is the entry's.
+fn has_record<T: Site>(
+    alloc: Global,
+    site: &mut T,
+    server: u32,
+    dat: &str,
+    entry: Entry,
+) -> Result<bool, OpenFault>
+    requires server { server < T.servers site.old }
+    ensures has { IfOk result (λ has. IsTrue T.tells → has ≡ has_record (bytes_of ((T.disk site.old).files (server, dat.now))) entry) }
+    ensures same { IsTrue T.tells → T.disk site.new ≡ T.disk site.old }
+    ensures cause { HasCause server (T.counts site.old) (T.counts site.new) (IsErrOf result (OpenFault.Fault server)) }
+    ensures blame { IfErr result (λ fault. (fault ≡ OpenFault.Memory) ⊎ (fault ≡ OpenFault.Fault server)) }
+    ensures servers { T.servers site.new ≡ T.servers site.old }
+    ensures says { (T.counts site.new).say_faults ≡ (T.counts site.old).say_faults }
+{
+    if !has_size(entry) || end_behind(Some(entry)) > MAX_DAT {
+        return Ok(false);
+    }
+    if let Err(fault) = cookie_at(alloc, site, server, dat, entry) {
+        return unless_damaged(fault);
+    }
+    if let Err(fault) = record_at(alloc, site, server, dat, entry) {
+        return unless_damaged(fault);
+    }
+    Ok(true)
+}
+
+// A record that is damaged isn't there.
+fn unless_damaged(fault: GetFault) -> Result<bool, OpenFault>
+    ensures { result ≡ unless_damaged fault }
+{
+    match fault {
+        GetFault::Damaged { .. } => Ok(false),
+        GetFault::Fault(device) => Err(OpenFault::Fault {
+            server: device.server,
+        }),
+        GetFault::Memory => Err(OpenFault::Memory),
+    }
+}
+
+// Whether the data file begins with an accepted super block.
+fn has_super<T: Site>(site: &mut T, server: u32, dat: &str) -> Result<bool, DeviceFault>
+    requires server { server < T.servers site.old }
+    ensures block { IfOk result (λ has. IsTrue T.tells → has ≡ has_super (bytes_of ((T.disk site.old).files (server, dat.now)))) }
+    ensures same { IsTrue T.tells → T.disk site.new ≡ T.disk site.old }
+    ensures cause { HasCause server (T.counts site.old) (T.counts site.new) (IsErr result) }
+    ensures blame { IfErr result (λ fault. fault.server ≡ server) }
+    ensures servers { T.servers site.new ≡ T.servers site.old }
+    ensures says { (T.counts site.new).say_faults ≡ (T.counts site.old).say_faults }
+{
+    let mut block = [0; SUPER];
+    if size_of(site, server, dat)? < block.len() as u64 {
+        return Ok(false);
+    }
+    match site.read(server, dat, 0, &mut block) {
+        Ok(()) => Ok(read_super(&block).is_ok()),
+        Err(_) => Err(DeviceFault { server }),
+    }
+}
+
+// The length of the file. An absent file counts as one without bytes.
+fn size_of<T: Site>(site: &mut T, server: u32, name: &str) -> Result<u64, DeviceFault>
+    requires server { server < T.servers site.old }
+    ensures size { IfOk result (λ size. IsTrue T.tells → size ≡ length_of ((T.disk site.old).files (server, name.now))) }
+    ensures same { IsTrue T.tells → T.disk site.new ≡ T.disk site.old }
+    ensures cause { HasCause server (T.counts site.old) (T.counts site.new) (IsErr result) }
+    ensures blame { IfErr result (λ fault. fault.server ≡ server) }
+    ensures servers { T.servers site.new ≡ T.servers site.old }
+    ensures says { (T.counts site.new).say_faults ≡ (T.counts site.old).say_faults }
+{
+    match site.size(server, name) {
+        Ok(size) => Ok(size.unwrap_or(0)),
+        Err(_) => Err(DeviceFault { server }),
+    }
+}

@@ -1,0 +1,3 @@
+mod openings;
+mod running;
+mod stops;

@@ -1,6 +1,6 @@
 -- What the code counts is what the lists give.
-use Rattle.std.proofs.Common.{◌≡◌, ◌⊎◌, inl, inr, ℕ, ◌+◌, ◌-◌, ◌*◌, ◌/◌, ◌%◌, ◌<◌, ◌≤◌, List, length, take, Bool, true, false, Result, Ok, Err, refl, sym, ◌∙◌, ap, subst, arith}
-use Rattle.std.specs.Prelude.{IfOk, MatchBool}
+use Rattle.std.proofs.Common.{◌≡◌, inl, inr, ℕ, ◌-◌, ◌*◌, ◌/◌, ◌%◌, List, length, take, Bool, true, false, Ok, Err, sym, ◌∙◌, ap, subst, arith}
+use Rattle.std.specs.Prelude.{MatchBool}
 use Rattle.std.proofs.lemmas.Bool.{MatchBool-at_true, MatchBool-at_false, false≢true}
 use Rattle.std.proofs.lemmas.List.{take_all}
 use Rattle.volume_forms.specs.Forms.{entries}

@@ -7,7 +7,6 @@ use Rattle.volume_forms.specs.Forms.{super_bytes}
 use Rattle.file_names.specs.declared.Kind.TheVariants.{Dat, Idx}
 use Rattle.file_names.specs.Names.{name_bytes}
 use Rattle.dat_volume.specs.declared.writing.NewNames.{NewNames}
-use Rattle.dat_volume.specs.Places.{dat_temp, idx_temp}
 use Rattle.dat_volume.specs.NewFiles.{FourPlaces, under_names, of_volume, NoneOf, Makes, AreMade}
 use Rattle.dat_volume.specs.Writes.{new_dat, NoneStands, Creates, IsCreated}
 use Rattle.dat_volume.specs.WriteLaws.{new_exact}

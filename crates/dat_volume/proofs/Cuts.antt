@@ -1,7 +1,7 @@
 -- Two files cut one after the other.
-use Rattle.std.proofs.Common.{◌≡◌, ◌≢◌, ◌⊎◌, inl, inr, ⊎_elim, ℕ, List, Option, sym, ◌∙◌, ap, subst}
-use Rattle.site_model.specs.Disk.{File, Place, Files, LeftOf, cut_to, Disk}
-use Rattle.site_model.specs.Leaves.{Leaves, joins, weaker}
+use Rattle.std.proofs.Common.{◌≡◌, ◌≢◌, ◌⊎◌, inl, inr, ⊎_elim, ℕ, List, sym, ◌∙◌, ap, subst}
+use Rattle.site_model.specs.Disk.{Place, LeftOf, cut_to, Disk}
+use Rattle.site_model.specs.Leaves.{joins, weaker}
 use Rattle.site_model.specs.Touches.{Touches, At, touches_on, touches_more}
 use Rattle.dat_volume.specs.Shortening.{Shortens, ShortensBoth, AreShortened}
 

@@ -1,17 +1,15 @@
 -- What an opening does, by the two cuts and the tests before them.
-use Rattle.std.proofs.Common.{◌≡◌, ◌≢◌, ◌⊎◌, inl, inr, ⊎_elim, ℕ, ◌+◌, ◌*◌, ◌<◌, ◌≤◌, ◌^◌, min, List, [], ◌∷◌, ◌++◌, length, take, drop, true, Option, Some, None, Ok, IsTrue, refl, sym, ◌∙◌, ap, subst, arith}
+use Rattle.std.proofs.Common.{◌≡◌, ◌⊎◌, inl, inr, ⊎_elim, ℕ, ◌*◌, ◌≤◌, min, List, [], ◌++◌, length, take, drop, true, Option, Some, Ok, refl, sym, ◌∙◌, ap, subst, arith}
 use Rattle.std.proofs.lemmas.List.{append-nil, take-append-drop, length-take}
-use Rattle.site_model.specs.Disk.{File, Place, Files, Image, LeftOf, IsFirm, firm_file, bytes_of, cut_to, Disk}
-use Rattle.site_model.specs.Leaves.{Leaves, starts, by_look, weaker}
-use Rattle.site_model.specs.Touches.{Touches, touches_look, firm_left}
-use Rattle.file_names.specs.Names.{name_bytes}
-use Rattle.file_names.specs.declared.Kind.TheVariants.{Dat, Idx}
-use Rattle.volume_forms.specs.Forms.{entries, has_super}
-use Rattle.needle_record.specs.Records.{Placed, Index, end_of, index_of}
+use Rattle.site_model.specs.Disk.{File, Files, Image, LeftOf, firm_file, bytes_of, cut_to, Disk}
+use Rattle.site_model.specs.Leaves.{starts, by_look, weaker}
+use Rattle.site_model.specs.Touches.{touches_look, firm_left}
+use Rattle.volume_forms.specs.Forms.{entries}
+use Rattle.needle_record.specs.Records.{Index, end_of}
 use Rattle.image_meaning.specs.Plain.{kept, kept_records, FollowsRecords, IsExact}
 use Rattle.image_meaning.specs.PlainLaws.{has_super-long, entries-take, exact_follows, exact_kept_records, cut_exact, cut_dat-follows, cut_dat-kept_records, cut_index-follows, cut_index-kept_records}
 use Rattle.dat_volume.specs.declared.volume.DatVolume.{DatVolume}
-use Rattle.dat_volume.specs.Places.{dat_place, idx_place, dat_in, idx_in, AreFirmRecords, KeepsRecords}
+use Rattle.dat_volume.specs.Places.{dat_place, idx_place, dat_in, idx_in, KeepsRecords}
 use Rattle.dat_volume.specs.Opening.{tested, end_by, index_by, KeepsLengths, IsCutOrNot, Opens, IsOpened, Trims}
 use Rattle.dat_volume.specs.OpeningLaws.{tested-keeps, tested-parts, tested-super, tested-dat, tested-idx, counted-kept, follows-end, follows-index}
 use Rattle.dat_volume.specs.Shortening.{ShortensBoth, AreShortened}

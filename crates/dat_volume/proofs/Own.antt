@@ -1,6 +1,6 @@
 -- Whether the record at an entry's place is the entry's, by what the readers of records tell.
-use Rattle.std.proofs.Common.{◌≡◌, ℕ, ◌+◌, ◌*◌, ◌/◌, ◌%◌, ◌<◌, ◌≤◌, List, length, take, drop, Bool, true, false, cond, ℤ, pos, negsuc, Option, Some, None, Result, Ok, Err, refl, sym, ◌∙◌, ap, subst, arith}
-use Rattle.std.specs.Prelude.{◌==◌, ◌&&◌, not, nat_lt, nat_le, MatchResult, IfOk, IsOk}
+use Rattle.std.proofs.Common.{◌≡◌, ℕ, ◌*◌, ◌/◌, ◌<◌, ◌≤◌, List, length, take, drop, Bool, true, false, cond, ℤ, pos, negsuc, Option, Some, None, Result, Ok, refl, sym, ◌∙◌, ap, subst, arith}
+use Rattle.std.specs.Prelude.{◌==◌, not, nat_lt, nat_le, IfOk}
 use Rattle.std.proofs.lemmas.Bool.{eqb-true, ne_eqb, ltb-true, le-leb, not-false, and_from, false_from_ne_true, false≢true}
 use Rattle.std.proofs.lemmas.List.{take_all}
 use Rattle.wire_num.specs.Numbers.{number_of}
@@ -16,7 +16,7 @@ use Rattle.needle_record.specs.Records.{max_dat, entry_of}
 use Rattle.site_model.specs.declared.error.OpenFault.{OpenFault}
 use Rattle.dat_volume.specs.declared.fault.GetFault.{GetFault}
 use Rattle.dat_volume.specs.declared.fault.GetFault.TheVariants as get_fault
-use Rattle.dat_volume.specs.Needles.{Damage, damage_of, bytes_from, header_damage, reading_damage, first_damage, record_damage, IsRecordAt, TellsDamage}
+use Rattle.dat_volume.specs.Needles.{Damage, damage_of, bytes_from, header_damage, reading_damage, first_damage, record_damage, TellsDamage}
 use Rattle.dat_volume.specs.Reading.{front_damage}
 use Rattle.dat_volume.specs.Opening.{is_size, is_entry_of, has_record}
 use Rattle.dat_volume.specs.OpeningLaws.{HasFound, has_found}

@@ -1,5 +1,5 @@
 -- What a scan of an index's entries tells of them.
-use Rattle.std.proofs.Common.{◌≡◌, ℕ, zero, suc, min, ◌+◌, ◌-◌, ◌*◌, ◌/◌, ◌%◌, ◌<◌, ◌≤◌, List, [], ◌∷◌, ◌++◌, length, take, drop, Bool, true, false, cond, Option, Some, None, refl, sym, ◌∙◌, ap, subst, arith, append_assoc}
+use Rattle.std.proofs.Common.{◌≡◌, ℕ, zero, suc, min, ◌+◌, ◌-◌, ◌*◌, ◌/◌, ◌%◌, ◌<◌, ◌≤◌, List, [], ◌∷◌, ◌++◌, length, take, drop, Bool, true, false, cond, Some, None, refl, sym, ◌∙◌, ap, subst, arith, append_assoc}
 use Rattle.std.specs.Prelude.{◌==◌, ◌&&◌, slice_get}
 use Rattle.std.proofs.Math.ListN.{length-append}
 use Rattle.std.proofs.Math.Seq.{take-add}
@@ -11,7 +11,7 @@ use Rattle.volume_forms.specs.Kept.{entry_end, kept_length}
 use Rattle.volume_forms.specs.EntryLaws.{entries-append, length-entries}
 use Rattle.dat_volume.specs.declared.chain.Chain.{Chain}
 use Rattle.dat_volume.specs.Opening.{is_size, chained}
-use Rattle.dat_volume.specs.Scanning.{no_chain, end_behind, goes_on, with_entry, with_entries, HasChain}
+use Rattle.dat_volume.specs.Scanning.{no_chain, with_entry, with_entries, HasChain}
 
 -- ---- the bytes of entries
 

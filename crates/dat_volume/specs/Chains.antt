@@ -8,9 +8,9 @@ use Rattle.volume_forms.specs.Kept.{entry_eq, entry_end, kept_count}
 use Rattle.volume_forms.specs.KeptLaws.{same_entry, kept_count-none}
 use Rattle.needle_record.specs.declared.Record.{Record}
 use Rattle.needle_record.specs.declared.NeedleFault.{NeedleFault}
-use Rattle.needle_record.specs.Spelling.{length_of_record, record_size}
+use Rattle.needle_record.specs.Spelling.{record_size}
 use Rattle.needle_record.specs.Reading.{needle_at}
-use Rattle.needle_record.specs.Records.{Placed, max_dat, records_from, entry_of}
+use Rattle.needle_record.specs.Records.{max_dat, records_from, entry_of}
 use Rattle.needle_record.specs.RecordsLaws.{records_from-found, records_from-fault, records_from-past, entry_of-place, entry_of-end}
 use Rattle.needle_record.specs.SpellingLaws.{found-length, length_of_record-in_eights}
 use Rattle.dat_volume.specs.Opening.{is_size, chained, is_entry_of, has_record, has_record_of}

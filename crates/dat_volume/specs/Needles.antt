@@ -1,6 +1,5 @@
 -- What the record at an entry's place tells.
-use Rattle.std.specs.Prelude.{◌≡◌, ◌≢◌, ℕ, ◌+◌, ◌*◌, ◌^◌, ◌==◌, not, nat_lt, if◌then◌else◌, IsTrue, List, ◌++◌, length, drop, Option, Some, None, Result, Ok, Err}
-use Rattle.std.specs.FinMap.{get}
+use Rattle.std.specs.Prelude.{◌≡◌, ◌≢◌, ℕ, ◌*◌, ◌==◌, not, nat_lt, if◌then◌else◌, IsTrue, List, ◌++◌, length, drop, Option, Some, None, Result, Ok, Err}
 use Rattle.wire_num.specs.Numbers.{number_of}
 use Rattle.world_model.specs.Sizes.{max_data}
 use Rattle.world_model.specs.World.{Needle}
@@ -15,7 +14,7 @@ use Rattle.needle_record.specs.declared.NeedleFault.{NeedleFault}
 use Rattle.needle_record.specs.declared.NeedleFault.TheVariants as fault
 use Rattle.needle_record.specs.Spelling.{length_of_record}
 use Rattle.needle_record.specs.Reading.{needle_at, size_at}
-use Rattle.needle_record.specs.Records.{Placed, Index, records, end_of, fold_records, index_of, IsWholeDat}
+use Rattle.needle_record.specs.Records.{Placed, Index, records, end_of, index_of, IsWholeDat}
 use Rattle.dat_volume.specs.declared.fault.GetFault.{GetFault}
 use Rattle.dat_volume.specs.declared.fault.GetFault.TheVariants as get_fault
 

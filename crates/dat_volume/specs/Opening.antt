@@ -1,8 +1,8 @@
 -- What an opening tests in a volume's two files, what it keeps of them, and what a stop leaves.
-use Rattle.std.specs.Prelude.{◌≡◌, ◌⊎◌, ◌≤◌, ℕ, suc, ◌+◌, ◌-◌, ◌*◌, ◌==◌, ◌&&◌, ◌||◌, not, nat_lt, nat_le, if◌then◌else◌, Bool, true, false, IsTrue, ℤ, pos, negsuc, List, [], ◌∷◌, length, take, drop, slice_get, Option, Some, None, Result, Ok, Err}
+use Rattle.std.specs.Prelude.{◌≡◌, ◌⊎◌, ◌≤◌, ℕ, suc, ◌+◌, ◌-◌, ◌*◌, ◌==◌, ◌&&◌, ◌||◌, not, nat_lt, nat_le, if◌then◌else◌, Bool, false, IsTrue, ℤ, pos, negsuc, List, [], ◌∷◌, length, take, drop, slice_get, Option, Some, Result, Ok, Err}
 use Rattle.std.specs.Option.{option_map_or}
 use Rattle.std.specs.FinMap.{empty, insert, remove}
-use Rattle.site_model.specs.Disk.{File, Files, Image, LeftOf, firm_file, cut_to, Disk}
+use Rattle.site_model.specs.Disk.{File, Files, LeftOf, firm_file, cut_to, Disk}
 use Rattle.site_model.specs.Leaves.{Leaves}
 use Rattle.site_model.specs.Touches.{Touches}
 use Rattle.site_model.specs.declared.error.OpenFault.{OpenFault}
@@ -13,7 +13,7 @@ use Rattle.volume_forms.specs.Kept.{entry_eq, entry_end, kept_length}
 use Rattle.needle_record.specs.declared.Record.{Record}
 use Rattle.needle_record.specs.declared.NeedleFault.{NeedleFault}
 use Rattle.needle_record.specs.Reading.{needle_at}
-use Rattle.needle_record.specs.Records.{Placed, Index, max_dat, end_of, entry_of, index_of}
+use Rattle.needle_record.specs.Records.{Index, max_dat, end_of, entry_of, index_of}
 use Rattle.image_meaning.specs.Plain.{kept, kept_records, FollowsRecords}
 use Rattle.dat_volume.specs.declared.volume.DatVolume.{DatVolume}
 use Rattle.dat_volume.specs.Places.{dat_place, idx_place, dat_in, idx_in, IsOneOfTwo, AreFirmRecords, KeepsRecords}

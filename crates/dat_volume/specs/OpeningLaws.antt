@@ -1,13 +1,12 @@
 -- Laws of an opening's tests: of files whose index follows the records they keep what those keep, what they keep is
 -- there, and cut to it the files pass again.
-use Rattle.std.proofs.Common.{◌≡◌, ◌⊎◌, inl, inr, ⊎_elim, ℕ, zero, suc, ◌+◌, ◌-◌, ◌*◌, ◌/◌, ◌%◌, ◌<◌, ◌≤◌, List, [], ◌∷◌, length, map, take, drop, Bool, true, false, cond, IsTrue, pos, negsuc, Option, Some, None, Result, Ok, Err, refl, sym, ◌∙◌, ap, subst, arith}
+use Rattle.std.proofs.Common.{◌≡◌, ◌⊎◌, inl, inr, ⊎_elim, ℕ, zero, suc, ◌+◌, ◌-◌, ◌*◌, ◌<◌, ◌≤◌, List, [], ◌∷◌, length, map, take, drop, Bool, true, false, cond, pos, negsuc, Option, Some, None, Result, Ok, Err, refl, sym, ◌∙◌, ap, subst, arith}
 use Rattle.std.specs.Prelude.{◌==◌, ◌&&◌, ◌||◌, not, nat_lt, nat_le, slice_get}
 use Rattle.std.specs.Option.{option_map_or}
 use Rattle.std.specs.FinMap.{empty}
-use Rattle.std.proofs.lemmas.Option.{slice_get_within}
 use Rattle.std.proofs.lemmas.List.{length-drop, length-take-le, take-map, take-take, drop-take}
 use Rattle.std.proofs.lemmas.List.Elements.{All-take}
-use Rattle.std.proofs.lemmas.Bool.{eqb-true, eq-eqb, ne_eqb, lt-ltb, le-ltb, ltb-true, ltb-false, le-leb, leb-true, cases_lt, or_cases, and_right, or_left, or_right, not_from_true, not_from_false, not-false, false≢true, cases_Bool}
+use Rattle.std.proofs.lemmas.Bool.{eqb-true, eq-eqb, ne_eqb, lt-ltb, le-ltb, ltb-true, ltb-false, leb-true, cases_lt, or_cases, and_right, or_left, or_right, not-false, false≢true}
 use Rattle.world_model.specs.declared.types.Content.{Content}
 use Rattle.world_model.specs.Sizes.{size_of}
 use Rattle.volume_forms.specs.declared.Entry.{Entry}
@@ -17,11 +16,10 @@ use Rattle.volume_forms.specs.EntryLaws.{length-entries}
 use Rattle.volume_forms.specs.KeptLaws.{same_entry, kept_count-le_index}
 use Rattle.needle_record.specs.declared.Record.{Record}
 use Rattle.needle_record.specs.declared.NeedleFault.{NeedleFault}
-use Rattle.needle_record.specs.Spelling.{length_of_record, record_size}
 use Rattle.needle_record.specs.SpellingLaws.{found-length, found-within, needle_at-take, length_of_record-least}
 use Rattle.needle_record.specs.Reading.{needle_at}
 use Rattle.needle_record.specs.Records.{Placed, Index, max_dat, records, records_from, end_of, entry_of, index_of, index_from, index_after_content, StandsIn}
-use Rattle.needle_record.specs.RecordsLaws.{entry_of-place, entry_of-end, kept_length-entries, records-stand}
+use Rattle.needle_record.specs.RecordsLaws.{entry_of-end, kept_length-entries, records-stand}
 use Rattle.image_meaning.specs.Plain.{kept, kept_records, FollowsRecords}
 use Rattle.image_meaning.specs.PlainLaws.{kept_count-front, entries-take, has_super-long, has_super-take}
 use Rattle.dat_volume.specs.Opening.{is_entry_of, has_record, has_record_of, chained, accepted, counted, with_super, tested, end_by, index_by, index_by_from, index_after_entry, KeepsLengths}

@@ -1,5 +1,5 @@
 -- Where a plain volume's files stand at a server, and what they hold.
-use Rattle.std.specs.Prelude.{◌≡◌, ◌⊎◌, ℕ, ◌++◌, List, [], ◌∷◌, Option, Some, None}
+use Rattle.std.specs.Prelude.{◌≡◌, ◌⊎◌, ℕ, ◌++◌, List, Some}
 use Rattle.site_model.specs.Disk.{Place, Files, Image, firm_file, bytes_of}
 use Rattle.file_names.specs.declared.Kind.TheVariants.{Dat, Idx}
 use Rattle.whole_file.specs.Held.{final_place, temp_place}

@@ -1,5 +1,5 @@
 -- What the crates above need of a volume's two files after a stop.
-use Rattle.std.specs.Prelude.{◌≡◌, ℕ, ◌+◌, true, IsTrue, List, [], ◌++◌, Option, Some, is_some, unwrap_or}
+use Rattle.std.specs.Prelude.{◌≡◌, ℕ, true, IsTrue, List, [], ◌++◌, Option, Some, is_some, unwrap_or}
 use Rattle.std.proofs.Common.{inl, inr, refl, sym, ◌∙◌, ap, subst, arith}
 use Rattle.std.proofs.lemmas.List.{append-nil}
 use Rattle.site_model.specs.Disk.{File, Files, Image, LeftOf, firm_file}

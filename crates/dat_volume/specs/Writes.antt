@@ -1,13 +1,12 @@
 -- What the making of a volume and a put do to its files, and what a stop leaves of them.
-use Rattle.std.specs.Prelude.{◌≡◌, ◌⊎◌, ℕ, List, [], ◌∷◌, ◌++◌, length, Option, Some, None, IsTrue}
-use Rattle.site_model.specs.Disk.{Files, Image, firm_file, bytes_of, Disk}
+use Rattle.std.specs.Prelude.{◌≡◌, ◌⊎◌, ℕ, List, [], ◌∷◌, ◌++◌, length, Some, None}
+use Rattle.site_model.specs.Disk.{Files, Image, firm_file, Disk}
 use Rattle.site_model.specs.Leaves.{Leaves}
 use Rattle.site_model.specs.Touches.{Touches}
-use Rattle.volume_forms.specs.Forms.{entry_bytes, has_super}
+use Rattle.volume_forms.specs.Forms.{entry_bytes}
 use Rattle.needle_record.specs.declared.Record.{Record}
 use Rattle.needle_record.specs.Spelling.{canonical}
 use Rattle.needle_record.specs.Records.{Placed, Index, entry_of, index_after_content}
-use Rattle.dat_volume.specs.declared.volume.DatVolume.{DatVolume}
 use Rattle.dat_volume.specs.Places.{dat_place, idx_place, dat_temp, idx_temp, dat_in, idx_in, IsOneOfTwo, IsOneOfFour, AreFirmRecords, KeepsRecords}
 
 -- ---- the making of a volume

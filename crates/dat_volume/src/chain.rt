@@ -3,17 +3,12 @@ ghost use Rattle.std.specs.Prelude.{◌≡◌};
 ghost use Rattle.dat_volume.specs.Opening.{is_size};
 ghost use Rattle.dat_volume.specs.Scanning.{end_behind};
 
+use crate::entering::{DELETION, UNIT};
 use crate::reading::place_of;
 use volume_forms::Entry;
 
 /// Where a super block ends.
-const SUPER_END: u64 = 8;
-
-/// Places in an index are counted in units of so many bytes.
-const UNIT: u64 = 8;
-
-/// The size in the entry of a deletion.
-const DELETION: i32 = -1;
+pub(crate) const SUPER_END: u64 = 8;
 
 /// What the entries so far of an index tell: how many there are, how many of them follow each other from the super
 /// block on, and the last two.

@@ -12,10 +12,10 @@ use std::alloc::AllocError;
 use volume_forms::Entry;
 
 /// Places in an index are counted in units of so many bytes.
-const UNIT: u64 = 8;
+pub(crate) const UNIT: u64 = 8;
 
 /// The size in the entry of a deletion.
-const DELETION: i32 = -1;
+pub(crate) const DELETION: i32 = -1;
 
 /// The entry of a record at this place.
 pub(crate) fn entry_of(needle: &Record, place: u64) -> Entry

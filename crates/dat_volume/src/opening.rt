@@ -10,7 +10,7 @@ ghost use Rattle.dat_volume.specs.OpeningLaws.{PassesEntries};
 ghost use Rattle.dat_volume.specs.Scanning.{HasChain, FailsEntries, unless_damaged};
 
 use crate::GetFault;
-use crate::chain::{Chain, end_behind, has_size};
+use crate::chain::{Chain, SUPER_END, end_behind, has_size};
 use crate::index_file::{ENTRY, piece_buffer, scan};
 use crate::reading::{cookie_at, record_at};
 use site_model::{DeviceFault, OpenFault, Site};
@@ -22,9 +22,6 @@ const RULE_RECORDS: u8 = 1;
 
 /// The rule that a data file has an accepted super block.
 const RULE_SUPER: u8 = 3;
-
-/// The bytes of a super block.
-const SUPER: usize = 8;
 
 /// No record ends behind this.
 const MAX_DAT: u64 = 1 << 35;
@@ -202,8 +199,8 @@ fn has_super<T: Site>(site: &mut T, server: u32, dat: &str) -> Result<bool, Devi
     ensures servers { T.servers site.new ≡ T.servers site.old }
     ensures says { (T.counts site.new).say_faults ≡ (T.counts site.old).say_faults }
 {
-    let mut block = [0; SUPER];
-    if size_of(site, server, dat)? < block.len() as u64 {
+    let mut block = [0; SUPER_END as usize];
+    if size_of(site, server, dat)? < SUPER_END {
         return Ok(false);
     }
     match site.read(server, dat, 0, &mut block) {

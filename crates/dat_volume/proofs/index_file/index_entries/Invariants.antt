@@ -1,4 +1,4 @@
-use Rattle.std.proofs.Common.{◌≡◌, ◌*◌, ◌-◌, ◌%◌, ◌≤◌, false, true, IsTrue, length, take}
+use Rattle.std.proofs.Common.{◌≡◌, ◌-◌, ◌%◌, ◌≤◌, false, true, IsTrue, length, take}
 use Rattle.site_model.specs.Disk.{bytes_of}
 use Rattle.site_model.specs.Counts.{HasCause}
 use Rattle.volume_forms.specs.Forms.{entries}

@@ -1,5 +1,4 @@
 use Rattle.std.proofs.Common.{◌∙◌, ap, arith}
-use Rattle.std.proofs.lemmas.Grind.{common_steps}
 use Rattle.dat_volume.specs.declared.chain.Chain.{Chain}
 use Rattle.dat_volume.proofs.Scanned.{scan_step, scan_end}
 use Rattle.dat_volume.proofs.index_file.scan_piece.Goals as goal

@@ -1,4 +1,4 @@
-use Rattle.std.proofs.Common.{◌≡◌, ◌∙◌, sym, inr, refl, ap, IsTrue}
+use Rattle.std.proofs.Common.{◌∙◌, sym, inr, refl, ap, IsTrue}
 use Rattle.std.proofs.lemmas.Result.{err_from_is_err_and}
 use Rattle.site_model.specs.Disk.{Disk, bytes_of}
 use Rattle.volume_forms.specs.Forms.{has_super}

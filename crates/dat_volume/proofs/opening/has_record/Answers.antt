@@ -1,7 +1,7 @@
-use Rattle.std.proofs.Common.{◌≡◌, Some, ◌∙◌, sym, ap, subst, IsTrue, arith}
+use Rattle.std.proofs.Common.{Some, ◌∙◌, sym, subst, IsTrue, arith}
 use Rattle.site_model.specs.Disk.{Disk, bytes_of}
-use Rattle.dat_volume.specs.Needles.{header_damage, record_damage, IsRecordAt, TellsDamage}
-use Rattle.dat_volume.proofs.Own.{no_size, no_room, read_own, own_header, own_record, damaged_not_own}
+use Rattle.dat_volume.specs.Needles.{header_damage, IsRecordAt}
+use Rattle.dat_volume.proofs.Own.{read_own, own_header, damaged_not_own}
 use Rattle.dat_volume.proofs.opening.has_record.Goals as goal
 
 pub returns-in-Err-clause-has : goal.returns-in-Err-clause-has

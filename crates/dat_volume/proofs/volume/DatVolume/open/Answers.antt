@@ -1,7 +1,5 @@
-use Rattle.std.proofs.Common.{◌≡◌, ◌∙◌, ◌*◌, ◌≤◌, List, length, refl, sym, ap, arith, false, Ok}
-use Rattle.site_model.specs.Disk.{Disk, bytes_of}
-use Rattle.dat_volume.specs.Places.{dat_in, idx_in}
-use Rattle.dat_volume.specs.Opening.{tested, end_by}
+use Rattle.std.proofs.Common.{◌∙◌, ◌*◌, refl, sym, arith, false}
+use Rattle.site_model.specs.Disk.{bytes_of}
 use Rattle.dat_volume.proofs.Apart.{index_apart}
 use Rattle.dat_volume.proofs.Opened.{keeps_by, opens_none, opens_by, opened_by, index_within, index_of_names}
 use Rattle.dat_volume.proofs.volume.DatVolume.open.Goals as goal

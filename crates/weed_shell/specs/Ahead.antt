@@ -1,5 +1,5 @@
 -- What a cutter of lines has ahead of it.
-use Rattle.std.specs.Prelude.{ℕ, ◌+◌, ◌-◌, ◌*◌, ◌^◌, List, ◌++◌, Option, option_map}
+use Rattle.std.specs.Prelude.{◌≡◌, ℕ, ◌+◌, ◌-◌, ◌*◌, ◌^◌, Bool, true, List, [], ◌++◌, Option, IfSome, option_map}
 use Rattle.std.specs.List.{between}
 use Rattle.weed_shell.specs.declared.lines.Lines.{Lines}
 
@@ -13,3 +13,7 @@ chunk_rest l = between l.at l.end l.chunk.items
 -- the bytes that are ahead: the rest of the chunk, and what the source has left, where it tells that
 abbrev pub ahead : Lines → Option (List ℕ) → Option (List ℕ)
 ahead l left = option_map (λ more. chunk_rest l ++ more) left
+
+-- where the source was met at its end, nothing is ahead
+abbrev pub KnowsEnd : Bool → Option (List ℕ) → Type 0
+KnowsEnd ended ahead = ended ≡ true → IfSome ahead (λ bytes. bytes ≡ [])

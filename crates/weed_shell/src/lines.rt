@@ -1,5 +1,5 @@
 // The lines of a source.
-ghost use Rattle.std.specs.Prelude.{◌≡◌, ◌+◌, ◌^◌, ◌≤◌, ◌==◌, length, [], MatchResult};
+ghost use Rattle.std.specs.Prelude.{◌≡◌, ◌+◌, ◌^◌, ◌≤◌, ◌==◌, length, [], true, MatchResult};
 ghost use Rattle.std.specs.List.{position_or_len, prefix_len};
 ghost use Rattle.weed_shell.specs.NextLine.{is_feed};
 
@@ -89,6 +89,8 @@ pub(crate) struct Lines {
     at: usize,
     end: usize,
     taken: u64,
+    // Whether the source was met at its end. It is not read again then.
+    ended: bool,
     kept: Vec<u8>,
     blankness: Blankness,
     ghost full: { length chunk.items ≡ 65536 },
@@ -96,24 +98,26 @@ pub(crate) struct Lines {
     ghost within: { end ≤ 65536 },
     ghost room: { length kept.items ≤ 8388610 },
     ghost bounded: { taken ≤ 2 ^ 48 + 65536 },
+    ghost enough: { ended ≡ true → taken ≤ 2 ^ 48 },
 }
 
 impl Lines {
     ghost use Rattle.std.specs.Prelude.{ℕ, ◌≢◌, ◌<◌, List, Some, take, false, IsTrue, IfOk, IfErr, OnOk, OnErr, IsErrOf, MatchBool};
     ghost use Rattle.site_model.specs.Reading.{FaultsRise};
     ghost use Rattle.script_text.specs.Lines.{without_return};
-    ghost use Rattle.weed_shell.specs.Ahead.{ahead, chunk_rest, work_left};
-    ghost use Rattle.weed_shell.specs.NextLine.{EndsAt, IsTaken, StopsAt, TakesLine};
-    ghost use Rattle.weed_shell.specs.KeptPart.{IsAtEnd, IsKind, TakesPart, TakesRaw, blankness_after, max_kept};
+    ghost use Rattle.weed_shell.specs.Ahead.{KnowsEnd, ahead, chunk_rest, work_left};
+    ghost use Rattle.weed_shell.specs.NextLine.{BreaksOff, EndsAt, IsTaken, StopsAt, TakesLine};
+    ghost use Rattle.weed_shell.specs.KeptPart.{IsKind, TakesPart, TakesRaw, blankness_after, max_kept};
 
     pub(crate) fn new(alloc: Global) -> Result<Lines, AllocError>
-        ensures { IfOk result (λ lines. (chunk_rest lines ≡ []) × (lines.taken ≡ 0)) }
+        ensures { IfOk result (λ lines. (chunk_rest lines ≡ []) × (lines.taken ≡ 0) × (lines.ended ≡ false)) }
     {
         Ok(Lines {
             chunk: vec![in alloc; 0; CHUNK]?,
             at: 0,
             end: 0,
             taken: 0,
+            ended: false,
             kept: Vec::new(alloc),
             blankness: Blankness::Spaces,
         })
@@ -127,12 +131,15 @@ impl Lines {
     }
 
     /// Reads on to the end of the next line. It is `TooMuch` where more than 2^48 bytes were taken and no line is left
-    /// of them.
+    /// of them. Once the source was met at its end it is not read again.
     pub(crate) fn next_line<S: Source>(&mut self, source: &mut S) -> Result<Next, LineStop>
-        ensures line { IfOk result (TakesLine (ahead self.old (S.left source.old)) (ahead self.new (S.left source.new)) self.new.kept.items) }
+        requires { KnowsEnd self.old.ended (ahead self.old (S.left source.old)) }
+        ensures line { IfOk result (TakesLine (ahead self.old (S.left source.old)) (ahead self.new (S.left source.new)) self.new.ended self.new.kept.items) }
+        ensures end { OnOk result (KnowsEnd self.new.ended (ahead self.new (S.left source.new))) }
+        ensures breaks { IfErr result (BreaksOff self.old.ended (ahead self.old (S.left source.old)) (S.left source.new)) }
         ensures goes_on { IfOk result (λ next. next ≢ Next.End → work_left self.new < work_left self.old) }
         ensures taken { IsTaken self.old.taken self.new.taken (S.taken source.old) (S.taken source.new) }
-        ensures ends { MatchResult result (EndsAt self.new.taken) (StopsAt self.new.taken) }
+        ensures stops { MatchResult result (EndsAt self.new.taken) (StopsAt self.new.taken) }
         ensures cause { FaultsRise (S.faults source.old) (S.faults source.new) (IsErrOf result LineStop.Source) }
     {
         if self.take_line(source)? {
@@ -144,10 +151,13 @@ impl Lines {
 
     // Takes the bytes of the next line and its end, and answers whether there were any.
     fn take_line<S: Source>(&mut self, source: &mut S) -> Result<bool, LineStop>
+        requires { KnowsEnd self.old.ended (ahead self.old (S.left source.old)) }
         ensures line { IfOk result (λ found. (bytes : List ℕ) → ahead self.old (S.left source.old) ≡ Some bytes → TakesRaw bytes (ahead self.new (S.left source.new)) self.new found) }
+        ensures end { OnOk result (KnowsEnd self.new.ended (ahead self.new (S.left source.new))) }
+        ensures breaks { IfErr result (BreaksOff self.old.ended (ahead self.old (S.left source.old)) (S.left source.new)) }
         ensures work { IfOk result (λ found. IsTrue found → work_left self.new < work_left self.old) }
         ensures taken { IsTaken self.old.taken self.new.taken (S.taken source.old) (S.taken source.new) }
-        ensures ends { MatchResult result (λ found. found ≡ false → self.new.taken ≤ 2 ^ 48) (StopsAt self.new.taken) }
+        ensures stops { MatchResult result (λ found. found ≡ false → self.new.taken ≤ 2 ^ 48) (StopsAt self.new.taken) }
         ensures cause { FaultsRise (S.faults source.old) (S.faults source.new) (IsErrOf result LineStop.Source) }
     {
         self.kept.clear();
@@ -184,15 +194,21 @@ impl Lines {
 
     // Reads the next chunk, and answers whether there is one.
     fn fill<S: Source>(&mut self, source: &mut S) -> Result<bool, LineStop>
-        requires { self.old.at ≡ self.old.end }
+        requires empty { self.old.at ≡ self.old.end }
+        requires end { KnowsEnd self.old.ended (ahead self.old (S.left source.old)) }
         ensures ahead { OnOk result (ahead self.new (S.left source.new) ≡ ahead self.old (S.left source.old)) }
-        ensures end { IfOk result (λ more. more ≡ false → IsAtEnd (ahead self.new (S.left source.new)) self.new.taken) }
+        ensures end { OnOk result (KnowsEnd self.new.ended (ahead self.new (S.left source.new))) }
+        ensures ended { IfOk result (λ more. MatchBool more ((self.old.ended ≡ false) × (self.new.ended ≡ false)) (self.new.ended ≡ true)) }
+        ensures breaks { OnErr result ((self.old.ended ≡ false) × (S.left source.new ≡ S.left source.old)) }
         ensures work { IfOk result (λ more. MatchBool more (work_left self.new < work_left self.old) (work_left self.new ≤ work_left self.old)) }
         ensures kept { (self.new.kept ≡ self.old.kept) × (self.new.blankness ≡ self.old.blankness) }
         ensures taken { IsTaken self.old.taken self.new.taken (S.taken source.old) (S.taken source.new) }
         ensures stops { IfErr result (StopsAt self.new.taken) }
         ensures cause { FaultsRise (S.faults source.old) (S.faults source.new) (IsErrOf result LineStop.Source) }
     {
+        if self.ended {
+            return Ok(false);
+        }
         if self.taken > MAX_SOURCE {
             return Err(LineStop::TooMuch);
         }
@@ -201,7 +217,8 @@ impl Lines {
                 self.at = 0;
                 self.end = length;
                 self.taken += length as u64;
-                Ok(length > 0)
+                self.ended = length == 0;
+                Ok(!self.ended)
             }
             Err(_) => Err(LineStop::Source),
         }
@@ -210,7 +227,7 @@ impl Lines {
     // What the line is, without the carriage return at its end.
     fn kind(&mut self) -> Next
         ensures kind { (line : List ℕ) → self.old.kept.items ≡ take max_kept line → self.old.blankness ≡ blankness_after Blankness.Spaces line → IsKind (without_return line) result self.new.kept.items }
-        ensures rest { (chunk_rest self.new ≡ chunk_rest self.old) × (self.new.taken ≡ self.old.taken) }
+        ensures rest { (chunk_rest self.new ≡ chunk_rest self.old) × (self.new.taken ≡ self.old.taken) × (self.new.ended ≡ self.old.ended) }
         ensures work { work_left self.new ≡ work_left self.old }
         ensures goes_on { result ≢ Next.End }
     {

@@ -1,6 +1,6 @@
-ghost use Rattle.std.specs.Prelude.{◌≡◌, ◌≢◌, ◌<◌, ◌≤◌, ◌↔◌, ℕ, map, string_bytes, IfOk, IfErr, IsTrue};
+ghost use Rattle.std.specs.Prelude.{◌≡◌, ◌≢◌, ◌<◌, ◌≤◌, ◌↔◌, ℕ, map, string_bytes, IfOk, IfErr, OnOk, IsTrue};
 ghost use Rattle.site_model.specs.Counts.{Counts, Rose};
-ghost use Rattle.weed_shell.specs.Ahead.{work_left};
+ghost use Rattle.weed_shell.specs.Ahead.{KnowsEnd, ahead, work_left};
 ghost use Rattle.weed_shell.specs.Causes.{AreLater, IsCaused, IsCausedBySite};
 ghost use Rattle.weed_shell.specs.Words.{IsLimit, served_settings};
 
@@ -69,8 +69,10 @@ fn turn<S: Source, T: Site, C: Clock>(
     site: &mut T,
     clock: &mut C,
 ) -> Result<bool, Status>
-    requires { 0 < T.servers site.old }
+    requires servers { 0 < T.servers site.old }
+    requires end { KnowsEnd lines.old.ended (ahead lines.old (S.left source.old)) }
     ensures goes_on { IfOk result (λ more. IsTrue more → work_left lines.new < work_left lines.old) }
+    ensures end { OnOk result (KnowsEnd lines.new.ended (ahead lines.new (S.left source.new))) }
     ensures caused { IfErr result (IsCaused (S.faults source.old) (S.faults source.new) (T.counts site.old) (T.counts site.new)) }
     ensures later { AreLater (T.counts site.old) (T.counts site.new) }
     ensures source { S.faults source.old ≤ S.faults source.new }
@@ -89,6 +91,8 @@ fn turn<S: Source, T: Site, C: Clock>(
 }
 
 fn next_line<S: Source>(lines: &mut Lines, source: &mut S) -> Result<Next, Status>
+    requires { KnowsEnd lines.old.ended (ahead lines.old (S.left source.old)) }
+    ensures end { OnOk result (KnowsEnd lines.new.ended (ahead lines.new (S.left source.new))) }
     ensures goes_on { IfOk result (λ next. next ≢ Next.End → work_left lines.new < work_left lines.old) }
     ensures caused { (c : Counts) → IfErr result (IsCaused (S.faults source.old) (S.faults source.new) c c) }
     ensures later { S.faults source.old ≤ S.faults source.new }

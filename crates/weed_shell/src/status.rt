@@ -3,7 +3,7 @@
 pub enum Status {
     /// `ready` was said, the source is at its end and all lines were answered.
     Done,
-    /// The words are not in the grammar. Nothing was called on the site.
+    /// The words are not in the grammar, or ask for a sample, which is not served yet. Nothing was called on the site.
     Usage,
     /// The device of this server failed.
     Fault { server: u32 },

@@ -137,6 +137,17 @@ fn a_failing_source_ends_the_run_after_ready(rt: HostRuntime) -> Result<(), Fail
     Ok(())
 }
 
+// A last line without its end is answered once the end was met, in the second read. A third one would fail.
+#[test]
+fn the_end_is_met_once(rt: HostRuntime) -> Result<(), Fail> {
+    let mut site = MemSite::new(rt.alloc(), 1)?;
+    let mut source = MemSource::new(rt.alloc(), b"get 1 1 0000002a")?;
+    source.fail_read(3);
+    assert_eq!(rt; run(rt.alloc(), &mut site, &mut source), Status::Done);
+    assert_eq!(rt; site.said(), b"ready\nERR 5 not found\n".as_slice());
+    Ok(())
+}
+
 // The first call that says anything comes after the listing of one server and the making of two files: two appends,
 // two syncs and two renames.
 #[test]

@@ -1,4 +1,4 @@
-use Rattle.std.proofs.Common.{arith}
+use Rattle.std.proofs.Common.{rules, arith}
 use Rattle.std.proofs.lemmas.Result.{err_from_is_err_and}
 use Rattle.weed_shell.proofs.CauseLaws.{caused_after, caused_by_site, later_on}
 use Rattle.weed_shell.proofs.run.serve.Goals as goal
@@ -18,6 +18,7 @@ pub loop-lines-init : goal.loop-lines-init
 loop-lines-init g c = record {
   some = omega (arith, c.say.ensures.servers, c.in_ok-volume.ensures.some);
   source = omega arith;
+  end = search rules;
   later = later_on _ _ _ c.open.ensures.later c.say.ensures.later;
 }
 
@@ -31,5 +32,6 @@ pub loop-lines-preserved : goal.loop-lines-preserved
 loop-lines-preserved g c = record {
   some = omega (arith, c.turn.ensures.servers, c.loop-lines.invariant.some);
   source = omega (arith, c.turn.ensures.source, c.loop-lines.invariant.source);
+  end = search rules;
   later = later_on _ _ _ c.loop-lines.invariant.later c.turn.ensures.later;
 }

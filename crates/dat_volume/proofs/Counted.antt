@@ -1,19 +1,18 @@
 -- What the code counts is what the lists give.
-use Rattle.std.proofs.Common.{◌≡◌, inl, inr, ℕ, ◌-◌, ◌*◌, ◌/◌, ◌%◌, List, length, take, Bool, true, false, Ok, Err, sym, ◌∙◌, ap, subst, arith}
-use Rattle.std.specs.Prelude.{MatchBool}
-use Rattle.std.proofs.lemmas.Bool.{MatchBool-at_true, MatchBool-at_false, false≢true}
+use Rattle.std.proofs.Common.{◌≡◌, inl, inr, ℕ, ◌-◌, ◌*◌, ◌/◌, ◌%◌, List, length, take, Some, None, Ok, Err, sym, ◌∙◌, ap, subst, arith}
+use Rattle.std.proofs.lemmas.Bool.{false≢true}
 use Rattle.std.proofs.lemmas.List.{take_all}
 use Rattle.volume_forms.specs.Forms.{entries}
-use Rattle.volume_forms.specs.Kept.{kept_length}
 use Rattle.volume_forms.specs.EntryLaws.{length-entries}
 use Rattle.image_meaning.specs.Plain.{FollowsRecords}
 use Rattle.image_meaning.specs.PlainLaws.{entries-take}
 use Rattle.dat_volume.specs.declared.chain.Chain.{Chain}
+use Rattle.dat_volume.specs.declared.opening.Kept.{Kept}
 use Rattle.site_model.specs.declared.error.OpenFault.{OpenFault}
 use Rattle.site_model.specs.declared.error.OpenFault.TheVariants as open_fault
-use Rattle.dat_volume.specs.Opening.{accepted, counted, tested, end_by, Blames, TellsCount, TellsRule}
-use Rattle.dat_volume.specs.OpeningLaws.{PassesEntries, counted-gap, counted-alien, counted-passed, follows-passes, tested-rule}
-use Rattle.dat_volume.specs.Scanning.{no_chain, with_entries, HasChain, FailsEntries}
+use Rattle.dat_volume.specs.Opening.{counted, tested, end_by, Blames, TellsCount, TellsRule}
+use Rattle.dat_volume.specs.OpeningLaws.{counted-gap, counted-alien, counted-earlier, counted-passed, follows-passes, follows-earlier, tested-rule}
+use Rattle.dat_volume.specs.Scanning.{no_chain, with_entries, HasChain, FailsEntries, IsAccepted}
 use Rattle.dat_volume.proofs.Scanned.{has_chain}
 
 -- a scan of all whole entries
@@ -33,14 +32,14 @@ pub count_fails : (dat idx : List ℕ) → FailsEntries dat (entries idx) → (c
 count_fails dat idx (inl gap) = (counted-gap dat idx gap, λ follows. absurd (omega (arith, gap, (follows-passes dat idx follows).chain)))
 count_fails dat idx (inr alien) = (counted-alien dat idx alien.0 alien.1, λ follows. absurd (false≢true (sym alien.1 ∙ (follows-passes dat idx follows).has alien.0)))
 
-pub fails_told : (dat idx : List ℕ) (passes : Bool) → passes ≡ false → MatchBool passes (PassesEntries dat (entries idx)) (FailsEntries dat (entries idx)) → (counted dat idx ≡ Err 1) × (FollowsRecords dat idx → ⊥)
-fails_told dat idx passes fails told = count_fails dat idx (MatchBool-at_false (PassesEntries dat (entries idx)) (FailsEntries dat (entries idx)) fails told)
+-- nothing is kept of them
+pub none_told : (dat idx : List ℕ) → IsAccepted dat (entries idx) None → (counted dat idx ≡ Err 1) × (FollowsRecords dat idx → ⊥)
+none_told dat idx (inl fails) = count_fails dat idx fails
+none_told dat idx (inr alien) = (counted-earlier dat idx alien.0 alien.1 alien.2, λ follows. absurd (false≢true (sym alien.2 ∙ follows-earlier dat idx follows alien.0 alien.1)))
 
--- entries that do
-pub count_passes : (dat idx : List ℕ) (passes : Bool) (count end : ℕ) → passes ≡ true → MatchBool passes (PassesEntries dat (entries idx)) (FailsEntries dat (entries idx))
-    → (count ≡ accepted dat (entries idx)) × (end ≡ kept_length (take count (entries idx))) → (counted dat idx ≡ Ok count) × (end ≡ end_by idx count)
-count_passes dat idx passes count end is told kept =
-    (counted-passed dat idx (MatchBool-at_true (PassesEntries dat (entries idx)) (FailsEntries dat (entries idx)) is told) ∙ ap (λ n. Ok n) (sym kept.0), kept.1)
+-- so many of entries that do
+pub count_passes : (dat idx : List ℕ) (kept : Kept) → IsAccepted dat (entries idx) (Some kept) → (counted dat idx ≡ Ok kept.count) × (kept.end ≡ end_by idx kept.count)
+count_passes dat idx kept accepts = (counted-passed dat idx accepts.0 accepts.1 ∙ ap (λ n. Ok n) (sym accepts.2), accepts.3)
 
 -- the fault of a count is told of the whole test
 pub rule_told : (Told : Type 0) (server v : ℕ) (dat idx : List ℕ) (fault : OpenFault) → Blames server v fault × (Told → TellsCount v dat idx fault) → Blames server v fault × (Told → TellsRule v dat idx fault)

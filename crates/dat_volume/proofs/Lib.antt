@@ -1,3 +1,4 @@
+mod Accepting
 mod Apart
 mod Blocks
 mod Counted

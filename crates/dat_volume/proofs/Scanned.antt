@@ -142,6 +142,8 @@ has_push es chain e has = record {
   last = sym (slice_get-push es e) ∙ ap (slice_get (es ++ e ∷ [])) front;
   before = λ many. has.last ∙ sym (slice_get-before es e (length es - 1) (omega (arith, long, many))) ∙ ap (slice_get (es ++ e ∷ [])) (number many);
   no_before = λ few. has.last ∙ none es (omega (arith, long, few));
+  earlier = λ many. has.before (omega (arith, long, many)) ∙ sym (slice_get-before es e (length es - 2) (omega (arith, long, many))) ∙ ap (slice_get (es ++ e ∷ [])) (number_before many);
+  no_earlier = λ few. has.no_before (omega (arith, long, few));
 }
   where
     long : length (es ++ e ∷ []) ≡ length es + 1
@@ -153,13 +155,16 @@ has_push es chain e has = record {
     number : 2 ≤ length (es ++ e ∷ []) → length es - 1 ≡ length (es ++ e ∷ []) - 2
     number many = omega (arith, long, many)
 
+    number_before : 3 ≤ length (es ++ e ∷ []) → length es - 2 ≡ length (es ++ e ∷ []) - 3
+    number_before many = omega (arith, long, many)
+
     none : (es : List Entry) → length es < 1 → slice_get es (length es - 1) ≡ None
     none [] few = refl
     none (x ∷ es) few = absurd (omega arith)
 
 has_none : HasChain [] no_chain
 unfolding chained
-has_none = record { count = refl; chained = refl; last_end = refl; before_end = refl; last = refl; before = λ many. absurd (omega arith); no_before = λ few. refl }
+has_none = record { count = refl; chained = refl; last_end = refl; before_end = refl; last = refl; before = λ many. absurd (omega arith); no_before = λ few. refl; earlier = λ many. absurd (omega arith); no_earlier = λ few. refl }
 
 has_more : (front es : List Entry) (chain : Chain) → HasChain front chain → HasChain (front ++ es) (with_entries chain es)
 unfolding with_entries

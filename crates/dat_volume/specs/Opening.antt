@@ -1,5 +1,5 @@
 -- What an opening tests in a volume's two files, what it keeps of them, and what a stop leaves.
-use Rattle.std.specs.Prelude.{◌≡◌, ◌⊎◌, ◌≤◌, ℕ, suc, ◌+◌, ◌-◌, ◌*◌, ◌==◌, ◌&&◌, ◌||◌, not, nat_lt, nat_le, if◌then◌else◌, Bool, false, IsTrue, ℤ, pos, negsuc, List, [], ◌∷◌, length, take, drop, slice_get, Option, Some, Result, Ok, Err}
+use Rattle.std.specs.Prelude.{◌≡◌, ◌⊎◌, ◌≤◌, ℕ, suc, ◌+◌, ◌-◌, ◌*◌, ◌==◌, ◌&&◌, ◌||◌, nat_lt, nat_le, if◌then◌else◌, Bool, false, IsTrue, ℤ, pos, negsuc, List, [], ◌∷◌, length, take, drop, slice_get, Option, Some, Result, Ok, Err}
 use Rattle.std.specs.Option.{option_map_or}
 use Rattle.std.specs.FinMap.{empty, insert, remove}
 use Rattle.site_model.specs.Disk.{File, Files, LeftOf, firm_file, cut_to, Disk}
@@ -43,18 +43,27 @@ has_record dat e = is_entry_of e (needle_at (drop (8 * e.offset) dat))
 abbrev pub has_record_of : List ℕ → List Entry → ℕ → Bool
 has_record_of dat es n = option_map_or (has_record dat) (slice_get es n) false
 
--- the last entry counts where it follows and has its record
-abbrev pub accepted : List ℕ → List Entry → ℕ
-accepted dat es = if (chained 8 es == length es) && has_record_of dat es (length es - 1) then length es else length es - 1
+-- the last entry follows and has its record
+abbrev pub last_counts : List ℕ → List Entry → Bool
+last_counts dat es = (chained 8 es == length es) && has_record_of dat es (length es - 1)
 
--- How many entries are kept, or that rule 1 fails. All but the last are to follow each other, and the last of these is to
--- have its record.
+-- it is kept only then
+abbrev pub accepted : List ℕ → List Entry → ℕ
+accepted dat es = if last_counts dat es then length es else length es - 1
+
+-- of so many entries the last two have their records
+abbrev pub has_last_two : List ℕ → List Entry → ℕ → Bool
+has_last_two dat es n = (nat_lt n 1 || has_record_of dat es (n - 1)) && (nat_lt n 2 || has_record_of dat es (n - 2))
+
+-- How many entries are kept, or that rule 1 fails. All but the last are to follow each other, and the last two that are
+-- kept are to have their records.
 unfoldable pub counted : List ℕ → List ℕ → Result ℕ ℕ
 counted dat idx =
     let es = entries idx in
+    let k = accepted dat es in
     if nat_lt (chained 8 es + 1) (length es) then Err 1
-    else if not (nat_lt (length es) 2 || has_record_of dat es (length es - 2)) then Err 1
-    else Ok (accepted dat es)
+    else if has_last_two dat es k then Ok k
+    else Err 1
 
 -- the same, where the data file has an accepted super block, and else that rule 3 fails
 abbrev pub with_super : Bool → Result ℕ ℕ → Result ℕ ℕ

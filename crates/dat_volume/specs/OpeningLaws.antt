@@ -1,12 +1,12 @@
 -- Laws of an opening's tests: of files whose index follows the records they keep what those keep, what they keep is
 -- there, and cut to it the files pass again.
 use Rattle.std.proofs.Common.{◌≡◌, ◌⊎◌, inl, inr, ⊎_elim, ℕ, zero, suc, ◌+◌, ◌-◌, ◌*◌, ◌<◌, ◌≤◌, List, [], ◌∷◌, length, map, take, drop, Bool, true, false, cond, pos, negsuc, Option, Some, None, Result, Ok, Err, refl, sym, ◌∙◌, ap, subst, arith}
-use Rattle.std.specs.Prelude.{◌==◌, ◌&&◌, ◌||◌, not, nat_lt, nat_le, slice_get}
+use Rattle.std.specs.Prelude.{◌==◌, ◌&&◌, ◌||◌, nat_lt, nat_le, slice_get}
 use Rattle.std.specs.Option.{option_map_or}
 use Rattle.std.specs.FinMap.{empty}
 use Rattle.std.proofs.lemmas.List.{length-drop, length-take-le, take-map, take-take, drop-take}
 use Rattle.std.proofs.lemmas.List.Elements.{All-take}
-use Rattle.std.proofs.lemmas.Bool.{eqb-true, eq-eqb, ne_eqb, lt-ltb, le-ltb, ltb-true, ltb-false, leb-true, cases_lt, or_cases, and_right, or_left, or_right, not-false, false≢true}
+use Rattle.std.proofs.lemmas.Bool.{eqb-true, eq-eqb, ne_eqb, lt-ltb, le-ltb, ltb-true, ltb-false, leb-true, cases_lt, or_cases, and_right, or_left, or_right, false_from_ne_true, false≢true}
 use Rattle.world_model.specs.declared.types.Content.{Content}
 use Rattle.world_model.specs.Sizes.{size_of}
 use Rattle.volume_forms.specs.declared.Entry.{Entry}
@@ -22,108 +22,8 @@ use Rattle.needle_record.specs.Records.{Placed, Index, max_dat, records, records
 use Rattle.needle_record.specs.RecordsLaws.{entry_of-end, kept_length-entries, records-stand}
 use Rattle.image_meaning.specs.Plain.{kept, kept_records, FollowsRecords}
 use Rattle.image_meaning.specs.PlainLaws.{kept_count-front, entries-take, has_super-long, has_super-take}
-use Rattle.dat_volume.specs.Opening.{is_entry_of, has_record, has_record_of, chained, accepted, counted, with_super, tested, end_by, index_by, index_by_from, index_after_entry, KeepsLengths}
+use Rattle.dat_volume.specs.Opening.{is_entry_of, has_record, has_record_of, chained, accepted, has_last_two, counted, with_super, tested, end_by, index_by, index_by_from, index_after_entry, KeepsLengths}
 use Rattle.dat_volume.specs.Chains.{both_hold, chained-le, chained-first, chained-next, MeetsRecords, meets_records}
-
--- ---- the tests, one by one
-
--- All entries but perhaps the last follow each other, and the last but one has its record.
-pub record PassesEntries (dat : List ℕ) (es : List Entry) : Type 0 where
-  pub chain : length es ≤ chained 8 es + 1
-  pub has : 2 ≤ length es → has_record_of dat es (length es - 2) ≡ true
-
--- the answer by what fails: the chain, or the last record but one
-abbrev answer : Bool → Bool → ℕ → Result ℕ ℕ
-answer gap alien k = cond gap (Err 1) (cond alien (Err 1) (Ok k))
-
-no_rule : (gap alien : Bool) (k n : ℕ) → answer gap alien k ≡ Ok n → (gap ≡ false) × (alien ≡ false) × (n ≡ k)
-no_rule true alien k n e = absurd cc
-no_rule false true k n e = absurd cc
-no_rule false false k n e = (refl, refl, cc)
-
-only_first : (gap alien : Bool) (k rule : ℕ) → answer gap alien k ≡ Err rule → rule ≡ 1
-only_first true alien k rule e = cc
-only_first false true k rule e = cc
-only_first false false k rule e = absurd cc
-
-module _ (dat idx : List ℕ) where
-  abbrev has_gap : Bool
-  has_gap = nat_lt (chained 8 (entries idx) + 1) (length (entries idx))
-
-  abbrev few_or_has : Bool
-  few_or_has = nat_lt (length (entries idx)) 2 || has_record_of dat (entries idx) (length (entries idx) - 2)
-
-  counted_is : counted dat idx ≡ answer has_gap (not few_or_has) (accepted dat (entries idx))
-  unfolding counted
-  counted_is = refl
-
-  -- a gap before the last entry
-  pub counted-gap : chained 8 (entries idx) + 1 < length (entries idx) → counted dat idx ≡ Err 1
-  counted-gap gap = counted_is ∙ ap (λ b. answer b (not few_or_has) (accepted dat (entries idx))) (lt-ltb (chained 8 (entries idx) + 1) (length (entries idx)) gap)
-
-  -- the last but one without its record
-  pub counted-alien : 2 ≤ length (entries idx) → has_record_of dat (entries idx) (length (entries idx) - 2) ≡ false → counted dat idx ≡ Err 1
-  counted-alien long alien = counted_is ∙ (λ i. answer has_gap (not (le-ltb (length (entries idx)) 2 long i || alien i)) (accepted dat (entries idx))) ∙ either has_gap
-    where
-      either : (b : Bool) → answer b true (accepted dat (entries idx)) ≡ Err 1
-      either true = refl
-      either false = refl
-
-  -- no other rule fails
-  pub counted-rule : (rule : ℕ) → counted dat idx ≡ Err rule → rule ≡ 1
-  counted-rule rule e = only_first has_gap (not few_or_has) (accepted dat (entries idx)) rule (sym counted_is ∙ e)
-
-  module _ (passes : PassesEntries dat (entries idx)) where
-    no_alien : few_or_has ≡ true
-    no_alien =
-        ⊎_elim
-        (λ few. or_left (nat_lt (length (entries idx)) 2) (has_record_of dat (entries idx) (length (entries idx) - 2)) (lt-ltb (length (entries idx)) 2 few))
-        (λ long. or_right (nat_lt (length (entries idx)) 2) (has_record_of dat (entries idx) (length (entries idx) - 2)) (passes.has long))
-        (cases_lt (length (entries idx)) 2)
-
-    pub counted-passed : counted dat idx ≡ Ok (accepted dat (entries idx))
-    counted-passed = counted_is ∙ λ i. answer (le-ltb (chained 8 (entries idx) + 1) (length (entries idx)) passes.chain i) (not (no_alien i)) (accepted dat (entries idx))
-
-  -- ---- the super block
-
-  pub tested-ok : (k : ℕ) → counted dat idx ≡ Ok k → has_super dat ≡ true → tested dat idx ≡ Ok k
-  unfolding tested
-  tested-ok k e super = λ i. with_super (super i) (e i)
-
-  pub tested-bare : (k : ℕ) → counted dat idx ≡ Ok k → has_super dat ≡ false → tested dat idx ≡ Err 3
-  unfolding tested
-  tested-bare k e bare = λ i. with_super (bare i) (e i)
-
-  pub tested-rule : (rule : ℕ) → counted dat idx ≡ Err rule → tested dat idx ≡ Err rule
-  unfolding tested
-  tested-rule rule e = ap (with_super (has_super dat)) e
-
-  -- both tests were passed
-  pub tested-parts : (k : ℕ) → tested dat idx ≡ Ok k → (counted dat idx ≡ Ok k) × (has_super dat ≡ true)
-  unfolding tested
-  tested-parts k e = parts (has_super dat) (counted dat idx) e
-    where
-      parts : (b : Bool) (r : Result ℕ ℕ) → with_super b r ≡ Ok k → (r ≡ Ok k) × (b ≡ true)
-      parts b (Err rule) e = absurd cc
-      parts true (Ok n) e = (e, refl)
-      parts false (Ok n) e = absurd cc
-
--- files of which so many entries are kept
-pub record Passed (dat idx : List ℕ) (k : ℕ) : Type 0 where
-  pub passes : PassesEntries dat (entries idx)
-  pub count : k ≡ accepted dat (entries idx)
-
-pub passed : (dat idx : List ℕ) (k : ℕ) → counted dat idx ≡ Ok k → Passed dat idx k
-passed dat idx k e =
-    let found = no_rule (has_gap dat idx) (not (few_or_has dat idx)) (accepted dat (entries idx)) k (sym (counted_is dat idx) ∙ e) in
-    record {
-      passes = record { chain = ltb-false (chained 8 (entries idx) + 1) (length (entries idx)) found.0; has = λ long. had long (or_cases _ _ (not-false _ found.1)) };
-      count = found.2;
-    }
-  where
-    had : 2 ≤ length (entries idx) → (nat_lt (length (entries idx)) 2 ≡ true) ⊎ (has_record_of dat (entries idx) (length (entries idx) - 2) ≡ true) → has_record_of dat (entries idx) (length (entries idx) - 2) ≡ true
-    had long (inl few) = absurd (omega (arith, ltb-true (length (entries idx)) 2 few, long))
-    had long (inr has) = has
 
 -- ---- how many are accepted
 
@@ -152,6 +52,170 @@ accepted-cases dat es = by_test ((chained 8 es == length es) && has_record_of da
     by_test true e = let parts = both_hold (chained 8 es == length es) (has_record_of dat es (length es - 1)) e in inl (refl, eqb-true (chained 8 es) (length es) parts.0, parts.1)
     by_test false e = inr (refl, λ whole has. false≢true (sym e ∙ λ i. eq-eqb (chained 8 es) (length es) whole i && has i))
 
+-- ---- the last two that are kept
+
+few_or : (n m : ℕ) (b : Bool) → (m ≤ n → b ≡ true) → (nat_lt n m || b) ≡ true
+few_or n m b has = ⊎_elim (λ few. or_left (nat_lt n m) b (lt-ltb n m few)) (λ many. or_right (nat_lt n m) b (has many)) (cases_lt n m)
+
+many_and : (n m : ℕ) (b : Bool) → (nat_lt n m || b) ≡ true → m ≤ n → b ≡ true
+many_and n m b holds many = by_case (or_cases _ _ holds)
+  where
+    by_case : (nat_lt n m ≡ true) ⊎ (b ≡ true) → b ≡ true
+    by_case (inl few) = absurd (omega (arith, ltb-true n m few, many))
+    by_case (inr has) = has
+
+pub last_two-have : (dat : List ℕ) (es : List Entry) (n : ℕ) → (1 ≤ n → has_record_of dat es (n - 1) ≡ true) → (2 ≤ n → has_record_of dat es (n - 2) ≡ true) → has_last_two dat es n ≡ true
+last_two-have dat es n last before = λ i. few_or n 1 (has_record_of dat es (n - 1)) last i && few_or n 2 (has_record_of dat es (n - 2)) before i
+
+pub last_two-had : (dat : List ℕ) (es : List Entry) (n : ℕ) → has_last_two dat es n ≡ true → (1 ≤ n → has_record_of dat es (n - 1) ≡ true) × (2 ≤ n → has_record_of dat es (n - 2) ≡ true)
+last_two-had dat es n have =
+    let parts = both_hold (nat_lt n 1 || has_record_of dat es (n - 1)) (nat_lt n 2 || has_record_of dat es (n - 2)) have in
+    (many_and n 1 (has_record_of dat es (n - 1)) parts.0, many_and n 2 (has_record_of dat es (n - 2)) parts.1)
+
+-- All entries but perhaps the last follow each other, and the last but one has its record.
+pub record PassesEntries (dat : List ℕ) (es : List Entry) : Type 0 where
+  pub chain : length es ≤ chained 8 es + 1
+  pub has : 2 ≤ length es → has_record_of dat es (length es - 2) ≡ true
+
+-- the last but two has its record, where the last isn't kept
+abbrev pub HasEarlier : List ℕ → List Entry → Type 0
+HasEarlier dat es = accepted dat es < length es → 3 ≤ length es → has_record_of dat es (length es - 3) ≡ true
+
+module _ (dat : List ℕ) (es : List Entry) where
+  at_number : (m n : ℕ) → m ≡ n → has_record_of dat es n ≡ true → has_record_of dat es m ≡ true
+  at_number m n same has = ap (has_record_of dat es) same ∙ has
+
+  -- then so have the last two that are kept
+  passes-last_two : PassesEntries dat es → HasEarlier dat es → has_last_two dat es (accepted dat es) ≡ true
+  passes-last_two passes earlier =
+      ⊎_elim
+      (λ all. last_two-have dat es (accepted dat es) (last all.0 all.2) (before all.0))
+      (λ fewer. last_two-have dat es (accepted dat es) (last_but_one fewer.0) (last_but_two fewer.0))
+      (accepted-cases dat es)
+    where
+      last : accepted dat es ≡ length es → has_record_of dat es (length es - 1) ≡ true → 1 ≤ accepted dat es → has_record_of dat es (accepted dat es - 1) ≡ true
+      last all has some = at_number (accepted dat es - 1) (length es - 1) (omega (arith, all)) has
+
+      before : accepted dat es ≡ length es → 2 ≤ accepted dat es → has_record_of dat es (accepted dat es - 2) ≡ true
+      before all some = at_number (accepted dat es - 2) (length es - 2) (omega (arith, all)) (passes.has (omega (arith, all, some)))
+
+      last_but_one : accepted dat es ≡ length es - 1 → 1 ≤ accepted dat es → has_record_of dat es (accepted dat es - 1) ≡ true
+      last_but_one fewer some = at_number (accepted dat es - 1) (length es - 2) (omega (arith, fewer)) (passes.has (omega (arith, fewer, some)))
+
+      last_but_two : accepted dat es ≡ length es - 1 → 2 ≤ accepted dat es → has_record_of dat es (accepted dat es - 2) ≡ true
+      last_but_two fewer some = at_number (accepted dat es - 2) (length es - 3) (omega (arith, fewer)) (earlier (omega (arith, fewer, some)) (omega (arith, fewer, some)))
+
+  -- and only then
+  module _ (have : has_last_two dat es (accepted dat es) ≡ true) where
+    last_two-before : 2 ≤ length es → has_record_of dat es (length es - 2) ≡ true
+    last_two-before long = ⊎_elim (λ all. whole all.0) (λ fewer. less fewer.0) (accepted-cases dat es)
+      where
+        whole : accepted dat es ≡ length es → has_record_of dat es (length es - 2) ≡ true
+        whole all = at_number (length es - 2) (accepted dat es - 2) (omega (arith, all)) ((last_two-had dat es (accepted dat es) have).1 (omega (arith, all, long)))
+
+        less : accepted dat es ≡ length es - 1 → has_record_of dat es (length es - 2) ≡ true
+        less fewer = at_number (length es - 2) (accepted dat es - 1) (omega (arith, fewer)) ((last_two-had dat es (accepted dat es) have).0 (omega (arith, fewer, long)))
+
+    last_two-earlier : HasEarlier dat es
+    last_two-earlier short long = ⊎_elim (λ all. absurd (omega (arith, all.0, short))) (λ fewer. less fewer.0) (accepted-cases dat es)
+      where
+        less : accepted dat es ≡ length es - 1 → has_record_of dat es (length es - 3) ≡ true
+        less fewer = at_number (length es - 3) (accepted dat es - 2) (omega (arith, fewer)) ((last_two-had dat es (accepted dat es) have).1 (omega (arith, fewer, long)))
+
+-- ---- the tests, one by one
+
+-- the answer by what fails: the chain, or one of the last two records that are kept
+abbrev answer : Bool → Bool → ℕ → Result ℕ ℕ
+answer gap have k = cond gap (Err 1) (cond have (Ok k) (Err 1))
+
+no_rule : (gap have : Bool) (k n : ℕ) → answer gap have k ≡ Ok n → (gap ≡ false) × (have ≡ true) × (n ≡ k)
+no_rule true have k n e = absurd cc
+no_rule false false k n e = absurd cc
+no_rule false true k n e = (refl, refl, cc)
+
+only_first : (gap have : Bool) (k rule : ℕ) → answer gap have k ≡ Err rule → rule ≡ 1
+only_first true have k rule e = cc
+only_first false false k rule e = cc
+only_first false true k rule e = absurd cc
+
+module _ (dat idx : List ℕ) where
+  abbrev has_gap : Bool
+  has_gap = nat_lt (chained 8 (entries idx) + 1) (length (entries idx))
+
+  abbrev have_both : Bool
+  have_both = has_last_two dat (entries idx) (accepted dat (entries idx))
+
+  counted_is : counted dat idx ≡ answer has_gap have_both (accepted dat (entries idx))
+  unfolding counted
+  counted_is = refl
+
+  -- a gap before the last entry
+  pub counted-gap : chained 8 (entries idx) + 1 < length (entries idx) → counted dat idx ≡ Err 1
+  counted-gap gap = counted_is ∙ ap (λ b. answer b have_both (accepted dat (entries idx))) (lt-ltb (chained 8 (entries idx) + 1) (length (entries idx)) gap)
+
+  -- one of the last two that are kept without its record
+  counted_without : (have_both ≡ true → ⊥) → counted dat idx ≡ Err 1
+  counted_without without = counted_is ∙ ap (λ b. answer has_gap b (accepted dat (entries idx))) (false_from_ne_true have_both without) ∙ either has_gap
+    where
+      either : (b : Bool) → answer b false (accepted dat (entries idx)) ≡ Err 1
+      either true = refl
+      either false = refl
+
+  -- the last but one without its record
+  pub counted-alien : 2 ≤ length (entries idx) → has_record_of dat (entries idx) (length (entries idx) - 2) ≡ false → counted dat idx ≡ Err 1
+  counted-alien long alien = counted_without (λ have. false≢true (sym alien ∙ last_two-before dat (entries idx) have long))
+
+  -- the last but two, where the last isn't kept
+  pub counted-earlier : accepted dat (entries idx) < length (entries idx) → 3 ≤ length (entries idx) → has_record_of dat (entries idx) (length (entries idx) - 3) ≡ false → counted dat idx ≡ Err 1
+  counted-earlier short long alien = counted_without (λ have. false≢true (sym alien ∙ last_two-earlier dat (entries idx) have short long))
+
+  -- no other rule fails
+  pub counted-rule : (rule : ℕ) → counted dat idx ≡ Err rule → rule ≡ 1
+  counted-rule rule e = only_first has_gap have_both (accepted dat (entries idx)) rule (sym counted_is ∙ e)
+
+  pub counted-passed : PassesEntries dat (entries idx) → HasEarlier dat (entries idx) → counted dat idx ≡ Ok (accepted dat (entries idx))
+  counted-passed passes earlier =
+      counted_is ∙ λ i. answer (le-ltb (chained 8 (entries idx) + 1) (length (entries idx)) passes.chain i) (passes-last_two dat (entries idx) passes earlier i) (accepted dat (entries idx))
+
+  -- ---- the super block
+
+  pub tested-ok : (k : ℕ) → counted dat idx ≡ Ok k → has_super dat ≡ true → tested dat idx ≡ Ok k
+  unfolding tested
+  tested-ok k e super = λ i. with_super (super i) (e i)
+
+  pub tested-bare : (k : ℕ) → counted dat idx ≡ Ok k → has_super dat ≡ false → tested dat idx ≡ Err 3
+  unfolding tested
+  tested-bare k e bare = λ i. with_super (bare i) (e i)
+
+  pub tested-rule : (rule : ℕ) → counted dat idx ≡ Err rule → tested dat idx ≡ Err rule
+  unfolding tested
+  tested-rule rule e = ap (with_super (has_super dat)) e
+
+  -- both tests were passed
+  pub tested-parts : (k : ℕ) → tested dat idx ≡ Ok k → (counted dat idx ≡ Ok k) × (has_super dat ≡ true)
+  unfolding tested
+  tested-parts k e = parts (has_super dat) (counted dat idx) e
+    where
+      parts : (b : Bool) (r : Result ℕ ℕ) → with_super b r ≡ Ok k → (r ≡ Ok k) × (b ≡ true)
+      parts b (Err rule) e = absurd cc
+      parts true (Ok n) e = (e, refl)
+      parts false (Ok n) e = absurd cc
+
+-- files of which so many entries are kept
+pub record Passed (dat idx : List ℕ) (k : ℕ) : Type 0 where
+  pub chain : length (entries idx) ≤ chained 8 (entries idx) + 1
+  pub have : has_last_two dat (entries idx) k ≡ true
+  pub count : k ≡ accepted dat (entries idx)
+
+pub passed : (dat idx : List ℕ) (k : ℕ) → counted dat idx ≡ Ok k → Passed dat idx k
+passed dat idx k e =
+    let found = no_rule (has_gap dat idx) (have_both dat idx) (accepted dat (entries idx)) k (sym (counted_is dat idx) ∙ e) in
+    record {
+      chain = ltb-false (chained 8 (entries idx) + 1) (length (entries idx)) found.0;
+      have = ap (has_last_two dat (entries idx)) found.2 ∙ found.1;
+      count = found.2;
+    }
+
 -- ---- files whose index follows their records
 
 module _ (dat idx : List ℕ) (follows : FollowsRecords dat idx) where
@@ -171,6 +235,9 @@ module _ (dat idx : List ℕ) (follows : FollowsRecords dat idx) where
     chain = omega (arith, follows, kept_is, meets.chain);
     has = λ long. meets.have (length (entries idx) - 2) (omega (arith, follows, kept_is, long));
   }
+
+  pub follows-earlier : HasEarlier dat (entries idx)
+  follows-earlier short long = meets.have (length (entries idx) - 3) (omega (arith, follows, kept_is, long))
 
   pub follows-accepted : accepted dat (entries idx) ≡ kept dat idx
   follows-accepted = by_length (length (entries idx)) refl
@@ -197,7 +264,7 @@ module _ (dat idx : List ℕ) (follows : FollowsRecords dat idx) where
 
   -- so what is kept is what the index has of the records
   pub follows-counted : counted dat idx ≡ Ok (kept dat idx)
-  follows-counted = counted-passed dat idx follows-passes ∙ ap (λ n. Ok n) follows-accepted
+  follows-counted = counted-passed dat idx follows-passes follows-earlier ∙ ap (λ n. Ok n) follows-accepted
 
   pub follows-tested : has_super dat ≡ true → tested dat idx ≡ Ok (kept dat idx)
   follows-tested super = tested-ok dat idx (kept dat idx) follows-counted super
@@ -329,21 +396,14 @@ module _ (dat idx : List ℕ) (k : ℕ) (counts : counted dat idx ≡ Ok k) wher
   counted-idx = omega (arith, counted-length, length-entries idx)
 
   counted_chain : k ≤ chained 8 (entries idx)
-  counted_chain = ⊎_elim (λ all. omega (arith, all_passed.count, all.0, all.1)) (λ fewer. omega (arith, all_passed.count, fewer.0, all_passed.passes.chain)) (accepted-cases dat (entries idx))
+  counted_chain = ⊎_elim (λ all. omega (arith, all_passed.count, all.0, all.1)) (λ fewer. omega (arith, all_passed.count, fewer.0, all_passed.chain)) (accepted-cases dat (entries idx))
 
-  -- the last of them has its record
+  -- the last two of them have their records
   pub counted-last : (j : ℕ) → k ≡ suc j → has_record_of dat (entries idx) j ≡ true
-  counted-last j last =
-      ⊎_elim
-      (λ all. ap (has_record_of dat (entries idx)) (at_last j all.0 last) ∙ all.2)
-      (λ fewer. ap (has_record_of dat (entries idx)) (but_last j fewer.0 last) ∙ all_passed.passes.has (omega (arith, all_passed.count, fewer.0, last)))
-      (accepted-cases dat (entries idx))
-    where
-      at_last : (j : ℕ) → accepted dat (entries idx) ≡ length (entries idx) → k ≡ suc j → j ≡ length (entries idx) - 1
-      at_last j all last = omega (arith, all_passed.count, all, last)
+  counted-last j last = at_number dat (entries idx) j (k - 1) (omega (arith, last)) ((last_two-had dat (entries idx) k all_passed.have).0 (omega (arith, last)))
 
-      but_last : (j : ℕ) → accepted dat (entries idx) ≡ length (entries idx) - 1 → k ≡ suc j → j ≡ length (entries idx) - 2
-      but_last j fewer last = omega (arith, all_passed.count, fewer, last)
+  pub counted-before : (j : ℕ) → k ≡ suc (suc j) → has_record_of dat (entries idx) j ≡ true
+  counted-before j last = at_number dat (entries idx) j (k - 2) (omega (arith, last)) ((last_two-had dat (entries idx) k all_passed.have).1 (omega (arith, last)))
 
   -- it is what is kept where the index follows the records
   pub counted-kept : FollowsRecords dat idx → k ≡ kept dat idx
@@ -351,6 +411,58 @@ module _ (dat idx : List ℕ) (k : ℕ) (counts : counted dat idx ≡ Ok k) wher
     where
       ok_same : {n m : ℕ} → ◌≡◌ {A = Result ℕ ℕ} (Ok n) (Ok m) → n ≡ m
       ok_same e = cc
+
+  -- ---- cut
+
+  counted_entries : entries (take (16 * k) idx) ≡ take k (entries idx)
+  counted_entries = entries-take k idx counted-idx
+
+  cut_length : length (take k (entries idx)) ≡ k
+  cut_length = length-take-le k (entries idx) counted-length
+
+  cut_chain : chained 8 (take k (entries idx)) ≡ k
+  cut_chain = chained-take k 8 (entries idx) counted_chain
+
+  cut_last : (j : ℕ) → k ≡ suc j → has_record_of (take (end_by idx k) dat) (take k (entries idx)) j ≡ true
+  cut_last j last =
+      let e = has_entry dat (entries idx) j (counted-last j last) in
+      has_record_of-entry (take (end_by idx k) dat) (take k (entries idx)) j e.0 (slice_get-front (entries idx) k j (omega (arith, last)) ∙ e.1)
+      ∙ has_record-take dat e.0 (end_by idx k) e.2 (omega (arith, ap (end_by idx) last ∙ kept_length-last (entries idx) j e.0 e.1))
+
+  cut_before : (j : ℕ) → k ≡ suc (suc j) → has_record_of (take (end_by idx k) dat) (take k (entries idx)) j ≡ true
+  cut_before j last =
+      let e = has_entry dat (entries idx) j (counted-before j last) in
+      let f = has_entry dat (entries idx) (suc j) (counted-last (suc j) last) in
+      let place = chained-place 8 (entries idx) j e.0 f.0 (omega (arith, counted_chain, last)) e.1 f.1 in
+      has_record_of-entry (take (end_by idx k) dat) (take k (entries idx)) j e.0 (slice_get-front (entries idx) k j (omega (arith, last)) ∙ e.1)
+      ∙ has_record-take dat e.0 (end_by idx k) e.2 (omega (arith, place, (has_found dat f.0 f.2).ends, ap (end_by idx) last ∙ kept_length-last (entries idx) (suc j) f.0 f.1))
+
+  cut_passes : PassesEntries (take (end_by idx k) dat) (take k (entries idx))
+  cut_passes = record { chain = omega (arith, cut_chain, cut_length); has = λ long. has_before long }
+    where
+      by_count : (n : ℕ) → k ≡ n → 2 ≤ n → has_record_of (take (end_by idx k) dat) (take k (entries idx)) (k - 2) ≡ true
+      by_count zero last long = absurd (omega arith)
+      by_count (suc zero) last long = absurd (omega arith)
+      by_count (suc (suc j)) last long = at_number (take (end_by idx k) dat) (take k (entries idx)) (k - 2) j (omega (arith, last)) (cut_before j last)
+
+      has_before : 2 ≤ length (take k (entries idx)) → has_record_of (take (end_by idx k) dat) (take k (entries idx)) (length (take k (entries idx)) - 2) ≡ true
+      has_before long = ap (λ n. has_record_of (take (end_by idx k) dat) (take k (entries idx)) (n - 2)) cut_length ∙ by_count k refl (omega (arith, cut_length, long))
+
+  cut_accepted : accepted (take (end_by idx k) dat) (take k (entries idx)) ≡ k
+  cut_accepted = by_count k refl
+    where
+      by_count : (n : ℕ) → k ≡ n → accepted (take (end_by idx k) dat) (take k (entries idx)) ≡ k
+      by_count zero none = ⊎_elim (λ all. all.0 ∙ cut_length) (λ fewer. omega (arith, fewer.0, cut_length, none)) (accepted-cases (take (end_by idx k) dat) (take k (entries idx)))
+      by_count (suc j) last =
+          accepted-all (take (end_by idx k) dat) (take k (entries idx)) (cut_chain ∙ sym cut_length)
+          (at_number (take (end_by idx k) dat) (take k (entries idx)) (length (take k (entries idx)) - 1) j (omega (arith, cut_length, last)) (cut_last j last))
+          ∙ cut_length
+
+  -- cut to what is kept, all of it is kept again
+  pub cut-counted : counted (take (end_by idx k) dat) (take (16 * k) idx) ≡ Ok k
+  cut-counted =
+      counted-passed (take (end_by idx k) dat) (take (16 * k) idx) (subst (PassesEntries (take (end_by idx k) dat)) (sym counted_entries) cut_passes) (subst (HasEarlier (take (end_by idx k) dat)) (sym counted_entries) (λ short long. absurd (omega (arith, short, cut_accepted, cut_length))))
+      ∙ ap (λ n. Ok n) (ap (accepted (take (end_by idx k) dat)) counted_entries ∙ cut_accepted)
 
 module _ (dat idx : List ℕ) (k : ℕ) (passes : tested dat idx ≡ Ok k) where
   counts_too : counted dat idx ≡ Ok k
@@ -401,69 +513,9 @@ module _ (dat idx : List ℕ) (k : ℕ) (passes : tested dat idx ≡ Ok k) where
   pub cut-end : end_by (take (16 * k) idx) k ≡ end_by idx k
   cut-end = ap (λ es. kept_length (take k es)) cut-entries ∙ ap kept_length (take-take k k (entries idx) (omega arith))
 
-  cut_length : length (take k (entries idx)) ≡ k
-  cut_length = length-take-le k (entries idx) (counted-length dat idx k counts_too)
-
-  cut_last : (j : ℕ) → k ≡ suc j → has_record_of (take (end_by idx k) dat) (take k (entries idx)) j ≡ true
-  cut_last j last =
-      let e = has_entry dat (entries idx) j (counted-last dat idx k counts_too j last) in
-      has_record_of-entry (take (end_by idx k) dat) (take k (entries idx)) j e.0 (slice_get-front (entries idx) k j (omega (arith, last)) ∙ e.1)
-      ∙ has_record-take dat e.0 (end_by idx k) e.2 (omega (arith, ap (end_by idx) last ∙ kept_length-last (entries idx) j e.0 e.1))
-
-  -- They pass again, and all is kept, where the last but one that is kept has its record. Where it isn't the last but one
-  -- of the index this wasn't looked at.
-  module _ (more : 2 ≤ k → has_record_of dat (entries idx) (k - 2) ≡ true) where
-    cut_but_one : (j : ℕ) → k ≡ suc (suc j) → has_record_of (take (end_by idx k) dat) (take k (entries idx)) j ≡ true
-    cut_but_one j last =
-        let e = has_entry dat (entries idx) j (ap (has_record_of dat (entries idx)) (number j last) ∙ more (omega (arith, last))) in
-        let f = has_entry dat (entries idx) (suc j) (counted-last dat idx k counts_too (suc j) last) in
-        let place = chained-place 8 (entries idx) j e.0 f.0 (omega (arith, (counted_chain dat idx k counts_too), last)) e.1 f.1 in
-        has_record_of-entry (take (end_by idx k) dat) (take k (entries idx)) j e.0 (slice_get-front (entries idx) k j (omega (arith, last)) ∙ e.1)
-        ∙ has_record-take dat e.0 (end_by idx k) e.2 (omega (arith, place, (has_found dat f.0 f.2).ends, ap (end_by idx) last ∙ kept_length-last (entries idx) (suc j) f.0 f.1))
-      where
-        number : (j : ℕ) → k ≡ suc (suc j) → j ≡ k - 2
-        number j last = omega (arith, last)
-
-    cut_passes : PassesEntries (take (end_by idx k) dat) (take k (entries idx))
-    cut_passes = record {
-      chain = omega (arith, chained-take k 8 (entries idx) (counted_chain dat idx k counts_too), cut_length);
-      has = λ long. has_last long;
-    }
-      where
-        by_count : (n : ℕ) → k ≡ n → 2 ≤ n → has_record_of (take (end_by idx k) dat) (take k (entries idx)) (k - 2) ≡ true
-        by_count zero last long = absurd (omega arith)
-        by_count (suc zero) last long = absurd (omega arith)
-        by_count (suc (suc j)) last long = ap (has_record_of (take (end_by idx k) dat) (take k (entries idx))) (less j last) ∙ cut_but_one j last
-          where
-            less : (j : ℕ) → k ≡ suc (suc j) → k - 2 ≡ j
-            less j last = omega (arith, last)
-
-        has_last : 2 ≤ length (take k (entries idx)) → has_record_of (take (end_by idx k) dat) (take k (entries idx)) (length (take k (entries idx)) - 2) ≡ true
-        has_last long = ap (λ n. has_record_of (take (end_by idx k) dat) (take k (entries idx)) (n - 2)) cut_length ∙ by_count k refl (omega (arith, cut_length, long))
-
-    cut_accepted : accepted (take (end_by idx k) dat) (take k (entries idx)) ≡ k
-    cut_accepted = by_count k refl
-      where
-        by_count : (n : ℕ) → k ≡ n → accepted (take (end_by idx k) dat) (take k (entries idx)) ≡ k
-        by_count zero none = ⊎_elim (λ all. all.0 ∙ cut_length) (λ fewer. omega (arith, fewer.0, cut_length, none)) (accepted-cases (take (end_by idx k) dat) (take k (entries idx)))
-        by_count (suc j) last =
-            accepted-all (take (end_by idx k) dat) (take k (entries idx)) (chained-take k 8 (entries idx) (counted_chain dat idx k counts_too) ∙ sym cut_length)
-            (ap (λ n. has_record_of (take (end_by idx k) dat) (take k (entries idx)) (n - 1)) cut_length ∙ ap (has_record_of (take (end_by idx k) dat) (take k (entries idx))) (less j last) ∙ cut_last j last)
-            ∙ cut_length
-          where
-            less : (j : ℕ) → k ≡ suc j → k - 1 ≡ j
-            less j last = omega (arith, last)
-
-    pub cut-tested : tested (take (end_by idx k) dat) (take (16 * k) idx) ≡ Ok k
-    cut-tested =
-        tested-ok (take (end_by idx k) dat) (take (16 * k) idx) k
-        (counted-passed (take (end_by idx k) dat) (take (16 * k) idx) (subst (PassesEntries (take (end_by idx k) dat)) (sym cut-entries) cut_passes)
-        ∙ ap (λ n. Ok n) (ap (accepted (take (end_by idx k) dat)) cut-entries ∙ cut_accepted))
-        (has_super-take dat (end_by idx k) tested-super ending.0)
-
--- so they do where the index follows the records
-pub follows-cut : (dat idx : List ℕ) → FollowsRecords dat idx → (k : ℕ) → tested dat idx ≡ Ok k → tested (take (end_by idx k) dat) (take (16 * k) idx) ≡ Ok k
-follows-cut dat idx follows k passes = cut-tested dat idx k passes (λ long. (meets dat idx follows).have (k - 2) (omega (arith, long, kept_is dat idx follows, counted-kept dat idx k (counts_too dat idx k passes) follows)))
+  -- and pass again
+  pub cut-tested : tested (take (end_by idx k) dat) (take (16 * k) idx) ≡ Ok k
+  cut-tested = tested-ok (take (end_by idx k) dat) (take (16 * k) idx) k (cut-counted dat idx k counts_too) (has_super-take dat (end_by idx k) tested-super ending.0)
 
 -- ---- indexes
 

@@ -11,13 +11,14 @@ use volume_forms::Entry;
 pub(crate) const SUPER_END: u64 = 8;
 
 /// What the entries so far of an index tell: how many there are, how many of them follow each other from the super
-/// block on, and the last two.
+/// block on, and the last three.
 #[derive(Clone, Copy)]
 pub(crate) struct Chain {
     pub count: u64,
     pub chained: u64,
     pub last: Option<Entry>,
     pub before: Option<Entry>,
+    pub earlier: Option<Entry>,
 }
 
 impl Chain {
@@ -32,6 +33,7 @@ impl Chain {
             chained: 0,
             last: None,
             before: None,
+            earlier: None,
         }
     }
 
@@ -52,6 +54,7 @@ impl Chain {
             },
             last: Some(entry),
             before: self.last,
+            earlier: self.before,
         }
     }
 }

@@ -1,13 +1,13 @@
 // The tests of a volume's two files, by which it is told how much of them to keep.
-ghost use Rattle.std.specs.Prelude.{◌≡◌, ◌⊎◌, ◌*◌, ◌<◌, ◌≤◌, ◌^◌, List, take, IsTrue, IfOk, IfErr, IsErr, IsErrOf, MatchBool, Ok};
+ghost use Rattle.std.specs.Option.{option_map_or};
+ghost use Rattle.std.specs.Prelude.{◌≡◌, ◌⊎◌, ◌*◌, ◌<◌, ◌≤◌, ◌^◌, List, IsTrue, IfSome, IfOk, IfErr, IsErr, IsErrOf, MatchBool, Ok, true};
 ghost use Rattle.site_model.specs.Disk.{bytes_of, length_of};
 ghost use Rattle.site_model.specs.Counts.{HasCause};
 ghost use Rattle.volume_forms.specs.declared.Entry.{Entry};
 ghost use Rattle.volume_forms.specs.Forms.{has_super};
-ghost use Rattle.volume_forms.specs.Kept.{kept_length};
-ghost use Rattle.dat_volume.specs.Opening.{has_record, accepted, counted, tested, end_by, Blames, TellsCount, TellsRule};
+ghost use Rattle.dat_volume.specs.Opening.{has_record, last_counts, counted, tested, end_by, Blames, TellsCount, TellsRule};
 ghost use Rattle.dat_volume.specs.OpeningLaws.{PassesEntries};
-ghost use Rattle.dat_volume.specs.Scanning.{HasChain, FailsEntries, unless_damaged};
+ghost use Rattle.dat_volume.specs.Scanning.{HasChain, FailsEntries, IsAccepted, unless_damaged};
 
 use crate::GetFault;
 use crate::chain::{Chain, SUPER_END, end_behind, has_size};
@@ -82,13 +82,49 @@ pub(crate) fn count_entries<T: Site>(
     let size = size_of(site, server, idx)?;
     let mut buffer = piece_buffer(alloc)?;
     let chain = scan(site, server, idx, size - size % ENTRY as u64, &mut buffer)?;
-    if !passes_entries(alloc, site, server, dat, chain)? {
+    let Some(kept) = accept(alloc, site, server, dat, chain)? else {
         return Err(OpenFault::Unsound {
             volume,
             rule: RULE_RECORDS,
         });
+    };
+    Ok(kept)
+}
+
+// What is kept, or nothing where the entries don't pass. The last entry is kept only where it follows and has its
+// record. Where it isn't, the last but two is to have its record too, so that what is kept passes again.
+fn accept<T: Site>(
+    alloc: Global,
+    site: &mut T,
+    server: u32,
+    dat: &str,
+    chain: Chain,
+) -> Result<Option<Kept>, OpenFault>
+    requires server { server < T.servers site.old }
+    ensures kept { IfOk result (λ found. IsTrue T.tells → (es : List Entry) → HasChain es chain → IsAccepted (bytes_of ((T.disk site.old).files (server, dat.now))) es found) }
+    ensures fewer { IfOk result (λ found. IfSome found (λ kept. kept.count ≤ chain.count)) }
+    ensures same { IsTrue T.tells → T.disk site.new ≡ T.disk site.old }
+    ensures cause { HasCause server (T.counts site.old) (T.counts site.new) (IsErrOf result (OpenFault.Fault server)) }
+    ensures blame { IfErr result (λ fault. (fault ≡ OpenFault.Memory) ⊎ (fault ≡ OpenFault.Fault server)) }
+    ensures servers { T.servers site.new ≡ T.servers site.old }
+    ensures says { (T.counts site.new).say_faults ≡ (T.counts site.old).say_faults }
+{
+    if !passes_entries(alloc, site, server, dat, chain)? {
+        return Ok(None);
     }
-    accept(alloc, site, server, dat, chain)
+    if last_counts(alloc, site, server, dat, chain)? {
+        return Ok(Some(Kept {
+            count: chain.count,
+            end: end_behind(chain.last),
+        }));
+    }
+    if !has_record_if_any(alloc, site, server, dat, chain.earlier)? {
+        return Ok(None);
+    }
+    Ok(Some(Kept {
+        count: chain.count.saturating_sub(1),
+        end: end_behind(chain.before),
+    }))
 }
 
 // All entries but the last follow each other, and the last but one has its record.
@@ -110,42 +146,53 @@ fn passes_entries<T: Site>(
     if chain.chained < chain.count.saturating_sub(1) {
         return Ok(false);
     }
-    match chain.before {
-        Some(entry) => has_record(alloc, site, server, dat, entry),
-        None => Ok(true),
-    }
+    has_record_if_any(alloc, site, server, dat, chain.before)
 }
 
-// What is kept of files that pass the tests: the last entry only where it follows and has its record.
-fn accept<T: Site>(
+// Whether the last entry follows and has its record.
+fn last_counts<T: Site>(
     alloc: Global,
     site: &mut T,
     server: u32,
     dat: &str,
     chain: Chain,
-) -> Result<Kept, OpenFault>
+) -> Result<bool, OpenFault>
     requires server { server < T.servers site.old }
-    ensures kept { IfOk result (λ kept. IsTrue T.tells → (es : List Entry) → HasChain es chain → (kept.count ≡ accepted (bytes_of ((T.disk site.old).files (server, dat.now))) es) × (kept.end ≡ kept_length (take kept.count es))) }
-    ensures fewer { IfOk result (λ kept. kept.count ≤ chain.count) }
+    ensures counts { IfOk result (λ counts. IsTrue T.tells → (es : List Entry) → HasChain es chain → counts ≡ last_counts (bytes_of ((T.disk site.old).files (server, dat.now))) es) }
     ensures same { IsTrue T.tells → T.disk site.new ≡ T.disk site.old }
     ensures cause { HasCause server (T.counts site.old) (T.counts site.new) (IsErrOf result (OpenFault.Fault server)) }
     ensures blame { IfErr result (λ fault. (fault ≡ OpenFault.Memory) ⊎ (fault ≡ OpenFault.Fault server)) }
     ensures servers { T.servers site.new ≡ T.servers site.old }
     ensures says { (T.counts site.new).say_faults ≡ (T.counts site.old).say_faults }
 {
-    if chain.chained == chain.count
-        && let Some(entry) = chain.last
-        && has_record(alloc, site, server, dat, entry)?
-    {
-        return Ok(Kept {
-            count: chain.count,
-            end: end_behind(chain.last),
-        });
+    match chain.last {
+        Some(entry) if chain.chained == chain.count => {
+            has_record(alloc, site, server, dat, entry)
+        }
+        _ => Ok(false),
     }
-    Ok(Kept {
-        count: chain.count.saturating_sub(1),
-        end: end_behind(chain.before),
-    })
+}
+
+// Whether the entry has its record, if there is one.
+fn has_record_if_any<T: Site>(
+    alloc: Global,
+    site: &mut T,
+    server: u32,
+    dat: &str,
+    entry: Option<Entry>,
+) -> Result<bool, OpenFault>
+    requires server { server < T.servers site.old }
+    ensures has { IfOk result (λ has. IsTrue T.tells → has ≡ option_map_or (has_record (bytes_of ((T.disk site.old).files (server, dat.now)))) entry true) }
+    ensures same { IsTrue T.tells → T.disk site.new ≡ T.disk site.old }
+    ensures cause { HasCause server (T.counts site.old) (T.counts site.new) (IsErrOf result (OpenFault.Fault server)) }
+    ensures blame { IfErr result (λ fault. (fault ≡ OpenFault.Memory) ⊎ (fault ≡ OpenFault.Fault server)) }
+    ensures servers { T.servers site.new ≡ T.servers site.old }
+    ensures says { (T.counts site.new).say_faults ≡ (T.counts site.old).say_faults }
+{
+    match entry {
+        Some(entry) => has_record(alloc, site, server, dat, entry),
+        None => Ok(true),
+    }
 }
 
 // Whether the record at the entry's place is the entry's. It is read whole only where its header is the entry's.

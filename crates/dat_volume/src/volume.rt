@@ -118,9 +118,9 @@ impl DatVolume {
     }
 
     /// The lengths of the data file and of the index to keep. The offsets of the index's entries are to follow each
-    /// other, and their sizes to be those of records, but perhaps of the last entry. Of the last two entries the
-    /// records are looked at: the last but one is to have its own, and the last counts only where it has. `Unsound`
-    /// has rule 1 where this is false, and else rule 3 where the super block isn't accepted.
+    /// other, and their sizes to be those of records, but perhaps of the last entry, which is kept only where it
+    /// follows and has its record. Of the last two entries that are kept the records are looked at: both are to have
+    /// their own. `Unsound` has rule 1 where this is false, and else rule 3 where the super block isn't accepted.
     pub fn check<T: Site>(
         alloc: Global,
         site: &mut T,

@@ -1,7 +1,7 @@
 -- What is known of a volume's homes, as far as servers were asked.
-use Rattle.std.proofs.Common.{◌≡◌, inl, inr, ⊎_elim, ℕ, zero, suc, ◌+◌, ◌-◌, ◌*◌, ◌<◌, ◌≤◌, Bool, true, false, cond, Option, Some, None, is_some, IsTrue, Result, Ok, Err, List, [], ◌∷◌, ◌++◌, length, take, filter, refl, sym, ◌∙◌, ap, subst, arith}
+use Rattle.std.proofs.Common.{◌≡◌, inl, inr, ⊎_elim, ℕ, zero, suc, ◌+◌, ◌*◌, ◌<◌, ◌≤◌, true, false, cond, Option, Some, None, is_some, IsTrue, Result, Ok, List, [], ◌∷◌, ◌++◌, length, take, filter, refl, sym, ◌∙◌, ap, subst, arith}
 use Rattle.std.proofs.lemmas.List.{length-take-le}
-use Rattle.std.specs.Prelude.{◌==◌, ◌&&◌, nat_lt, nat_le, not, ◌||◌, unwrap_or, if◌then◌else◌, slice_get, Contains}
+use Rattle.std.specs.Prelude.{nat_lt, nat_le, ◌||◌, unwrap_or, if◌then◌else◌, slice_get, Contains}
 use Rattle.std.specs.List.{range_with_len}
 use mathlib.Core.Bool.{true≢false}
 use Rattle.std.proofs.lemmas.Bool.{cases_eq, cases_lt, lt-ltb, le-ltb}
@@ -10,8 +10,7 @@ use Rattle.site_model.specs.Disk.{File, Files, IsPossible, size_of, bytes_of}
 use Rattle.site_model.specs.Disk as disk
 use Rattle.world_model.specs.declared.types.Mode.TheVariants as mode
 use Rattle.wire_num.specs.NumberLaws.{AreBytes}
-use Rattle.volume_forms.specs.Forms.{entries, has_super}
-use Rattle.volume_forms.specs.EntryLaws.{length-entries}
+use Rattle.volume_forms.specs.Forms.{has_super}
 use Rattle.file_names.specs.declared.Kind.TheVariants.{Dat, Idx, Shard}
 use Rattle.file_names.specs.Names.{shard_count}
 use Rattle.image_meaning.specs.Files.{VolumeFiles, contents, place_of, files_of, stands, bytes_at, shard_home, standing}
@@ -22,7 +21,8 @@ use Rattle.image_meaning.specs.Sound.{HasIndex, HasEntries, HasOneHome, HasSuper
 use Rattle.image_meaning.specs.PlainLaws.{lowest-all_fail}
 use Rattle.image_meaning.specs.Laws.Servers.{lowest-some, lowest-exists}
 use Rattle.image_meaning.specs.Laws.PlainLoss.{is_plain}
-use Rattle.dat_volume.specs.Opening.{counted, accepted, has_record_of, chained}
+use Rattle.dat_volume.specs.Opening.{counted}
+use Rattle.dat_volume.specs.OpeningLaws.{counted-idx}
 use Rattle.site_recovery.specs.Recovering.{HasNoCoded}
 use Rattle.site_recovery.specs.Tests.{count_at, entries_in, kept_index, PassesRecords, PassesHomes, PassesTests, FailsFirst}
 use Rattle.site_recovery.specs.TestLaws.{same_counts, same_fronts, fails_broken}
@@ -44,22 +44,8 @@ module _ (files : Files) (v server : ℕ) where
       (λ i. counted (dat i) (idx i)) ∙ e
 
 -- no more entries are counted than the index has
-accepted_few : (dat : List ℕ) (idx : List ℕ) → accepted dat (entries idx) ≤ length (entries idx)
-accepted_few dat idx = by_test ((chained 8 (entries idx) == length (entries idx)) && has_record_of dat (entries idx) (length (entries idx) - 1))
-  where
-    by_test : (b : Bool) → (if b then length (entries idx) else length (entries idx) - 1) ≤ length (entries idx)
-    by_test true = omega arith
-    by_test false = omega arith
-
 pub counted_within : (dat idx : List ℕ) (n : ℕ) → counted dat idx ≡ Ok n → 16 * n ≤ length idx
-unfolding counted
-counted_within dat idx n e =
-    by_tests (nat_lt (chained 8 (entries idx) + 1) (length (entries idx))) (not (nat_lt (length (entries idx)) 2 || has_record_of dat (entries idx) (length (entries idx) - 2))) e
-  where
-    by_tests : (a b : Bool) → ◌≡◌ {A = Result ℕ ℕ} (if a then Err 1 else if b then Err 1 else Ok (accepted dat (entries idx))) (Ok n) → 16 * n ≤ length idx
-    by_tests true b f = absurd cc
-    by_tests false true f = absurd cc
-    by_tests false false f = let same : accepted dat (entries idx) ≡ n = cc in omega (arith, accepted_few dat idx, length-entries idx, same)
+counted_within dat idx n e = counted-idx dat idx n e
 
 pub size_some : (o : Option File) (n : ℕ) → Some n ≡ size_of o → (n ≡ length (bytes_of o)) × (is_some (disk.standing o) ≡ true)
 size_some None n e = absurd cc

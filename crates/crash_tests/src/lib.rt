@@ -1,4 +1,5 @@
-//! Tests of a plain volume over a site in memory: what it reads, opens and keeps where each of its calls is stopped.
+//! Tests over a site in memory: what a plain volume reads, opens and keeps where each of its calls is stopped, and what a
+//! recovery makes of a site, stopped or not.
 #![tactic(auto)]
 
 #[cfg(test)]

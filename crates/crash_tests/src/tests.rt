@@ -1,3 +1,4 @@
 mod openings;
+mod recoveries;
 mod running;
 mod stops;

@@ -13,13 +13,14 @@ use wire_num::record_length;
 use world_model::types::What;
 
 /// A volume with the data "123456789" under id 1 and cookie 2a.
-const ONE_DAT: &str = "03000000000000000000002a00000000000000010000000e00000009313233343536373839\
-                       00e30692830000000000000000000000000000";
+pub const ONE_DAT: &str =
+    "03000000000000000000002a00000000000000010000000e00000009313233343536373839\
+     00e30692830000000000000000000000000000";
 
-const ONE_IDX: &str = "0000000000000001000000010000000e";
+pub const ONE_IDX: &str = "0000000000000001000000010000000e";
 
 /// The same, and the deletion of id 1.
-const DELETED_IDX: &str = "0000000000000001000000010000000e000000000000000100000007ffffffff";
+pub const DELETED_IDX: &str = "0000000000000001000000010000000e000000000000000100000007ffffffff";
 
 fn site_of(alloc: Global, dat: &[u8], idx: &[u8]) -> Result<MemSite, AllocError>
     ensures { IfOk result (λ site. site.servers ≡ 1) }

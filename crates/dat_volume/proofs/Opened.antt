@@ -10,7 +10,7 @@ use Rattle.image_meaning.specs.Plain.{kept, kept_records, FollowsRecords, IsExac
 use Rattle.image_meaning.specs.PlainLaws.{has_super-long, entries-take, exact_follows, exact_kept_records, cut_exact, cut_dat-follows, cut_dat-kept_records, cut_index-follows, cut_index-kept_records}
 use Rattle.dat_volume.specs.declared.volume.DatVolume.{DatVolume}
 use Rattle.dat_volume.specs.Places.{dat_place, idx_place, dat_in, idx_in, KeepsRecords}
-use Rattle.dat_volume.specs.Opening.{tested, end_by, index_by, KeepsLengths, IsCutOrNot, Opens, IsOpened, Trims}
+use Rattle.dat_volume.specs.Opening.{tested, end_by, index_by, KeepsLengths, IsCutOrNot, Opens, IsOpened, IsLoaded, Trims}
 use Rattle.dat_volume.specs.OpeningLaws.{tested-keeps, tested-parts, tested-super, tested-dat, tested-idx, counted-kept, follows-end, follows-index}
 use Rattle.dat_volume.specs.Shortening.{ShortensBoth, AreShortened}
 
@@ -192,3 +192,32 @@ pub index_of_names : (server v long : ℕ) (old mid : Disk) (a : List ℕ) (inde
     → index ≡ index_by (entries (take long (idx_in old.files server v)))
 index_of_names server v long old mid a index same names is =
     is ∙ ap (λ (d : Disk). index_by (entries (take long (bytes_of (d.files (server, a)))))) same ∙ ap (λ (x : List ℕ). index_by (entries (take long (bytes_of (old.files (server, x)))))) names
+
+-- what was loaded
+pub loaded : (volume : DatVolume) (dat idx : List ℕ) (k end long : ℕ) → (tested dat idx ≡ Ok k) × (end ≡ end_by idx k) → long ≡ 16 * k
+    → volume.used ≡ end → volume.index ≡ index_by (entries (take long idx)) → IsLoaded volume dat idx
+loaded volume dat idx k end long told is used index = record {
+  lengths = (end, long);
+  keeps = record {
+    count = k;
+    passed = told.0;
+    dat_length = told.1;
+    idx_length = is;
+    dat_within = omega (arith, told.1, tested-dat dat idx k told.0);
+    idx_within = omega (arith, is, within);
+    super = tested-super dat idx k told.0;
+    follows = λ follows. (count_is follows, ap (end_by idx) (count_is follows) ∙ follows-end dat idx follows (tested-super dat idx k told.0));
+  };
+  used = used;
+  index = index_is;
+  follows = λ follows. index_is ∙ ap (λ n. index_by (take n (entries idx))) (count_is follows) ∙ follows-index dat idx follows;
+}
+  where
+    within : 16 * k ≤ length idx
+    within = tested-idx dat idx k told.0
+
+    count_is : FollowsRecords dat idx → k ≡ kept dat idx
+    count_is follows = counted-kept dat idx k (tested-parts dat idx k told.0).0 follows
+
+    index_is : volume.index ≡ index_by (take k (entries idx))
+    index_is = index ∙ ap (λ n. index_by (entries (take n idx))) is ∙ ap index_by (entries-take k idx within)

@@ -149,6 +149,14 @@ pub record IsOpened (server v : ℕ) (volume : DatVolume) (old new : Files) : Ty
   pub exact : (dat idx : List ℕ) → old (dat_place server v) ≡ Some (firm_file dat) → old (idx_place server v) ≡ Some (firm_file idx) → FollowsRecords dat idx
       → AreFirmRecords server v new (take lengths.0 dat) (take lengths.1 idx) (kept_records dat idx)
 
+-- The volume has the index and the length of what is kept of these files.
+pub record IsLoaded (volume : DatVolume) (dat idx : List ℕ) : Type 0 where
+  pub lengths : ℕ × ℕ
+  pub keeps : KeepsLengths dat idx lengths
+  pub used : volume.used ≡ lengths.0
+  pub index : volume.index ≡ index_by (take keeps.count (entries idx))
+  pub follows : FollowsRecords dat idx → volume.index ≡ index_of (kept_records dat idx)
+
 -- ---- cuts
 
 -- Both files are cut to these lengths. A stop leaves each as it was or cut.

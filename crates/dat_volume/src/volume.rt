@@ -45,7 +45,7 @@ impl DatVolume {
     ghost use Rattle.dat_volume.specs.Places.{dat_in, idx_in, idx_place};
     ghost use Rattle.dat_volume.specs.Writes.{NoneStands, Creates, IsCreated, Puts, IsPut, index_with};
     ghost use Rattle.dat_volume.specs.Needles.{header_damage, record_damage, IsRecordAt, IsCookieAt, TellsDamage, HasDifference, BeginsWith, IsNeedle, IsCookie, IsNoDamage};
-    ghost use Rattle.dat_volume.specs.Opening.{counted, KeepsLengths, TellsCount, TellsRule, Blames, Opens, IsOpened, Trims, AreTrimmed};
+    ghost use Rattle.dat_volume.specs.Opening.{counted, KeepsLengths, TellsCount, TellsRule, Blames, Opens, IsOpened, IsLoaded, Trims, AreTrimmed};
 
     /// Makes a volume without needles. No file of the volume stands at the server.
     pub fn create<T: Site>(
@@ -115,6 +115,36 @@ impl DatVolume {
             }),
             Err(_) => Err(OpenFault::Fault { server }),
         }
+    }
+
+    /// The volume whose index stands at the server, by the tests of `check`: with the entries that are kept, and the
+    /// length of the data file to keep. No file is changed.
+    pub fn load<T: Site>(
+        alloc: Global,
+        site: &mut T,
+        server: u32,
+        volume: u32,
+    ) -> Result<DatVolume, OpenFault>
+        requires server { server < T.servers site.old }
+        requires stands { IsTrue T.tells → IsSome ((T.disk site.old).files (idx_place server volume)) }
+        ensures value { IfOk result (λ loaded. (loaded.server ≡ server) × (loaded.volume ≡ volume)) }
+        ensures done { IfOk result (λ loaded. IsTrue T.tells → IsLoaded loaded (dat_in (T.disk site.old).files server volume) (idx_in (T.disk site.old).files server volume)) }
+        ensures unsound { IfErr result (λ fault. Blames server volume fault × (IsTrue T.tells → TellsRule volume (dat_in (T.disk site.old).files server volume) (idx_in (T.disk site.old).files server volume) fault)) }
+        ensures same { IsTrue T.tells → T.disk site.new ≡ T.disk site.old }
+        ensures cause { HasCause server (T.counts site.old) (T.counts site.new) (IsErrOf result (OpenFault.Fault server)) }
+        ensures servers { T.servers site.new ≡ T.servers site.old }
+        ensures says { (T.counts site.new).say_faults ≡ (T.counts site.old).say_faults }
+    {
+        let dat = final_name(alloc, volume, Kind::Dat)?;
+        let idx = final_name(alloc, volume, Kind::Idx)?;
+        let kept = examine(alloc, site, server, volume, &dat, &idx)?;
+        let index = read_index(alloc, site, server, &idx, kept.count * ENTRY as u64)?;
+        Ok(DatVolume {
+            server,
+            volume,
+            index,
+            used: kept.end,
+        })
     }
 
     /// The lengths of the data file and of the index to keep. The offsets of the index's entries are to follow each

@@ -1,8 +1,8 @@
 // Files that are opened, and the needles that are read of them.
 ghost use Rattle.std.specs.Prelude.{◌≡◌, IfOk};
 
-use super::running::{DAT, IDX, Running, SERVER, VOLUME, deletion, needle, open};
-use dat_volume::GetFault;
+use super::running::{DAT, IDX, Running, SERVER, VOLUME, deletion, has_index, needle, open};
+use dat_volume::{DatVolume, GetFault};
 use needle_record::record_size;
 use site_mem::MemSite;
 use site_model::OpenFault;
@@ -99,6 +99,18 @@ fn a_broken_rule_is_told_by_its_number(rt: HostRuntime) -> Result<(), Fail> {
     let bad_dat = "02000000000000000000002a00000000000000010000000e00000009313233343536373839\
                    00e30692830000000000000000000000000000";
     see_unsound(&rt, alloc, bad_dat, ONE_IDX, 3)
+}
+
+#[test]
+fn a_volume_that_is_loaded_keeps_its_files(rt: HostRuntime) -> Result<(), Fail> {
+    let alloc = rt.alloc();
+    let mut site = one_needle_and(alloc, &[1, 2, 3], &[0; 16])?;
+    let stands = has_index(alloc, &site)?;
+    assert!(rt; stands);
+    let volume = DatVolume::load(alloc, &mut site, SERVER, VOLUME)?;
+    assert_eq!(rt; volume.used(), 56);
+    assert_eq!(rt; site.file(SERVER, DAT).map(|dat| dat.len()), Some(59));
+    Ok(())
 }
 
 #[test]

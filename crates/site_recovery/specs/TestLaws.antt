@@ -179,8 +179,9 @@ module _ (old new temps : VolumeFiles) (home : ℕ) (at : index_home old ≡ Som
   follows : FollowsRecords (bytes_at old home Dat) (bytes_at old home Idx)
   follows = (plain_rules old (is_plain old home at) sound).entries_follow.all_but_one home (home_has old home at)
 
-  long : 8 ≤ length (bytes_at old home Dat)
-  long = has_super-long (bytes_at old home Dat) left.keeps.super
+  -- there was a super block
+  pub left_long : 8 ≤ length (bytes_at old home Dat)
+  left_long = has_super-long (bytes_at old home Dat) left.keeps.super
 
   dat_end : left.lengths.0 ≡ end_of (kept_records (bytes_at old home Dat) (bytes_at old home Idx))
   dat_end = left.keeps.dat_length ∙ (left.keeps.follows follows).1
@@ -189,14 +190,15 @@ module _ (old new temps : VolumeFiles) (home : ℕ) (at : index_home old ≡ Som
   idx_end = left.keeps.idx_length ∙ ap (λ n. 16 * n) (left.keeps.follows follows).0
 
   dat_there : old home Dat ≡ Some (bytes_at old home Dat)
-  dat_there = by_file (old home Dat) long
+  dat_there = by_file (old home Dat) left_long
     where
       by_file : (o : Option (List ℕ)) → 8 ≤ length (unwrap_or o []) → o ≡ Some (unwrap_or o [])
       by_file None h = absurd (omega arith)
       by_file (Some bytes) h = refl
 
-  only : IsAlone new home new_dat new_idx
-  only = record {
+  -- both files are left, cut to what is kept, and no other
+  pub left_only : IsAlone new home new_dat new_idx
+  left_only = record {
     below = (home_has old home at).0;
     has_dat = left.dat_cut (bytes_at old home Dat) dat_there ∙ ap (λ n. Some (take n (bytes_at old home Dat))) dat_end;
     has_index = left.idx_cut (bytes_at old home Idx) (there (old home Idx) (home_has old home at).1) ∙ ap (λ n. Some (take n (bytes_at old home Idx))) idx_end;
@@ -205,10 +207,10 @@ module _ (old new temps : VolumeFiles) (home : ℕ) (at : index_home old ≡ Som
 
   left_plain : IsTidiedVolume old new temps
   left_plain =
-      let exact = cut_exact (bytes_at old home Dat) (bytes_at old home Idx) long in (
-        alone_tidy new temps home new_dat new_idx only (kept_at old home) exact none,
-        alone_means new temps home new_dat new_idx only ∙ ap (λ ps. Some (fold_records ps)) (exact_kept_records new_dat new_idx (kept_at old home) exact) ∙ sym (plain_means old home at),
-        alone_sound new temps home new_dat new_idx only (exact_follows new_dat new_idx (kept_at old home) exact) (cut_super (bytes_at old home Dat) (bytes_at old home Idx) long left.keeps.super),
+      let exact = cut_exact (bytes_at old home Dat) (bytes_at old home Idx) left_long in (
+        alone_tidy new temps home new_dat new_idx left_only (kept_at old home) exact none,
+        alone_means new temps home new_dat new_idx left_only ∙ ap (λ ps. Some (fold_records ps)) (exact_kept_records new_dat new_idx (kept_at old home) exact) ∙ sym (plain_means old home at),
+        alone_sound new temps home new_dat new_idx left_only (exact_follows new_dat new_idx (kept_at old home) exact) (cut_super (bytes_at old home Dat) (bytes_at old home Idx) left_long left.keeps.super),
       )
 
 -- a lost volume's files are as they were
@@ -233,7 +235,8 @@ left_absent : (old new temps : VolumeFiles) → mode_of old ≡ None → HasNoFi
 left_absent old new temps absent no_files none =
     (no_files_tidy new temps no_files none, absent_means new (no_files_absent new no_files) ∙ sym (absent_means old (absent_by old absent)), absent_sound new (no_files_absent new no_files))
 
-never_sealed : (files : VolumeFiles) → mode_of files ≡ Some mode.Sealed → ⊥
+-- no mark is in the files
+pub never_sealed : (files : VolumeFiles) → mode_of files ≡ Some mode.Sealed → ⊥
 unfolding mode_of
 never_sealed files e = by_parts (is_some (index_home files)) (nat_le data_count (length (standing files))) (nat_lt 0 (length (standing files)) || has_long_dat files) e
   where
@@ -266,7 +269,8 @@ file_stands : (o : Option File) → is_some (disk.standing o) ≡ true → IsSom
 file_stands None e = e
 file_stands (Some file) e = refl
 
-not_coded : (files : Files) (v : ℕ) → (HasCodedFile files v → ⊥) → IsCoded (files_of (contents files) v) → ⊥
+-- a volume without a file of the coded form
+pub not_coded : (files : Files) (v : ℕ) → (HasCodedFile files v → ⊥) → IsCoded (files_of (contents files) v) → ⊥
 not_coded files v none coded =
     let shard = shard_there (files_of (contents files) v) coded in
     none (shard.0, Shard shard.1, false, shard.2, file_stands (files (place_of v shard.0 (Shard shard.1) false)) shard.3)

@@ -15,7 +15,7 @@ use world_model::bytes::Bytes;
 const UNKEPT_FLAGS: u8 = 0x3e;
 
 /// A number in decimal digits, without sign and leading zeros, of at most `most`.
-pub(crate) fn number(word: &[u8], most: u64) -> Option<u64>
+pub fn number(word: &[u8], most: u64) -> Option<u64>
     ensures { result ≡ number_in most word.now }
 {
     if !is_plain(word) {
@@ -43,13 +43,15 @@ fn digits(word: &[u8]) -> Option<u64>
     str::from_utf8(word).ok()?.parse().ok()
 }
 
-pub(crate) fn u64_word(word: &[u8]) -> Option<u64>
+/// The same, of at most 2^64 - 1.
+pub fn u64_word(word: &[u8]) -> Option<u64>
     ensures { result ≡ u64_in word.now }
 {
     number(word, u64::MAX)
 }
 
-pub(crate) fn u32_word(word: &[u8]) -> Option<u32>
+/// The same, of at most 2^32 - 1.
+pub fn u32_word(word: &[u8]) -> Option<u32>
     ensures { result ≡ u32_in word.now }
 {
     number(word, u64::from(u32::MAX)).map(|number| number as u32)

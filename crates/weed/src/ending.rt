@@ -1,4 +1,7 @@
 // How the program ends.
+ghost use Rattle.std.specs.Prelude.{◌≡◌};
+ghost use Rattle.weed.specs.Endings.{ending_number};
+
 use std::fmt;
 use std::fmt::{Display, Formatter};
 use weed_shell::Status;
@@ -17,7 +20,9 @@ pub enum Ending {
 
 impl Ending {
     /// The number with which the program ends.
-    pub fn number(self) -> u8 {
+    pub fn number(self) -> u8
+        ensures { result ≡ ending_number self }
+    {
         match self {
             Ending::Ran(status) => status.number(),
             Ending::NoSite => NO_SITE,

@@ -1,7 +1,7 @@
 -- The calls of a record that grows.
 use Rattle.std.proofs.Common.{◌≡◌, ℕ, ◌+◌, ◌<◌, ◌≤◌, ◌==◌, ◌&&◌, nat_lt, nat_le, Bool, true, false, cond, List, [], ◌∷◌, ◌++◌, get_or, Option, Some, None, is_some, MatchBool, Result, Ok, Err, OnOk, OnErr, is_ok, refl, sym, ◌∙◌, ap, subst, arith}
 use Rattle.std.proofs.lemmas.Bool.{and_parts, and_from, cond-true, cond-false, lt-ltb, ltb-true, le-ltb, le-leb, leb-true, eq-eqb, ne_eqb, cond_both}
-use Rattle.site_model.specs.Disk.{File, Place, Files, Disk, HasFirmFront, appends, syncs, cuts, renames, removes, says}
+use Rattle.site_model.specs.Disk.{File, Place, Files, Disk, HasFirmFront, AreBytes, bytes_of, appends, syncs, cuts, renames, removes, says}
 use Rattle.site_mem.specs.declared.entry.Entry.{Entry}
 use Rattle.site_mem.specs.declared.stored.Stored.{Stored}
 use Rattle.site_mem.specs.declared.history.History.{History}
@@ -88,6 +88,11 @@ at_loss n d (x ∷ entries) since now same = ap (λ u. cond (nat_lt x.number n) 
 pub front_of : (kept : List Stored) (k : Place) → HasFirmFront (files_of kept k)
 front_of [] k = tt
 front_of (s ∷ kept) k = cond_both (is_place (place_of s) k) (Some (file_of s)) (files_of kept k) HasFirmFront (λ is. s.front) (λ off. front_of kept k)
+
+-- what is kept are bytes
+pub bytes_kept : (kept : List Stored) (k : Place) → AreBytes (bytes_of (files_of kept k))
+bytes_kept [] k = tt
+bytes_kept (s ∷ kept) k = cond_both (is_place (place_of s) k) (Some (file_of s)) (files_of kept k) (λ f. AreBytes (bytes_of f)) (λ is. s.are_bytes) (λ off. bytes_kept kept k)
 
 -- a place at a server is none where no file stands
 else_where : (servers : ℕ) (p k : Place) (file : Option File) (files : Files) → p.0 < servers → servers ≤ k.0 → IsNowhereElse servers files → is_some (put_file p file files k) ≡ false

@@ -1,4 +1,5 @@
 pub mod Places
+pub mod Bytes
 pub mod Keeping
 pub mod Recording
 pub mod Fills

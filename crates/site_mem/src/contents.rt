@@ -162,13 +162,7 @@ impl Contents {
                 server,
                 name,
                 bytes,
-            } => self.put(Stored {
-                server: *server,
-                name: name.to_string(alloc)?,
-                bytes: bytes.to_vec(alloc)?,
-                firm: bytes.len(),
-                is_named: true,
-            }),
+            } => self.put(Stored::firm(alloc, *server, name, bytes)?),
             Asked::Append {
                 server,
                 name,

@@ -1,5 +1,7 @@
 // One file.
 ghost use Rattle.std.specs.Prelude.{◌≤◌, length};
+ghost use Rattle.site_model.specs.Disk.{AreBytes};
+ghost use Rattle.std.proofs.Props.{props};
 
 use crate::tear::Tear;
 use std::alloc::{AllocError, Global};
@@ -15,14 +17,29 @@ pub struct Stored {
     /// Whether a stop leaves the file for sure.
     pub is_named: bool,
     ghost front: { firm ≤ length bytes.items },
+    ghost are_bytes: { AreBytes bytes.items } by { Prim.hlevel props },
 }
 
 impl Stored {
     ghost use Rattle.std.specs.Prelude.{◌≡◌, ◌++◌, ◌∷◌, [], map, Some, IfOk, OnOk, OnErr, string_bytes};
-    ghost use Rattle.site_model.specs.Disk.{grown, synced, cut_to};
+    ghost use Rattle.site_model.specs.Disk.{grown, synced, cut_to, firm_file};
     ghost use Rattle.site_mem.specs.Events.{is_place};
     ghost use Rattle.site_mem.specs.Kept.{file_of, place_of, names_at};
     ghost use Rattle.site_mem.specs.Torn.{torn_file, bytes_left};
+
+    /// A firm file of these bytes.
+    pub fn firm(alloc: Global, server: u32, name: &str, bytes: &[u8]) -> Result<Self, AllocError>
+        ensures place { IfOk result (λ file. place_of file ≡ (server, name.now)) }
+        ensures file { IfOk result (λ file. file_of file ≡ firm_file bytes.now) }
+    {
+        Ok(Stored {
+            server,
+            name: name.to_string(alloc)?,
+            bytes: bytes.to_vec(alloc)?,
+            firm: bytes.len(),
+            is_named: true,
+        })
+    }
 
     /// Whether it is the file of this name at this server.
     pub fn is_at(&self, server: u32, name: &str) -> bool

@@ -1,28 +1,48 @@
-//! Encodes and restores ten pieces of 64 KiB, and prints what came out. Each word that it is
-//! run with asks for one round of timing.
+//! Encodes and restores pieces of 64 KiB in each ratio, and prints what came out. Each word that it is run with
+//! asks for one round of timing.
 #![tactic(auto)]
 
-ghost use Rattle.std.specs.Prelude.{◌≡◌, ◌*◌, IfOk, length};
+ghost use Rattle.std.specs.Prelude.{◌≡◌, ◌<◌, ◌+◌, ◌*◌, EachIndex, IfOk, length, slice_index};
+ghost use Rattle.world_model.specs.Ratios.{data_count, parity_count};
+ghost use Rattle.rs_kernel.specs.Pieces.{AreEnough, HaveOneSize};
 
-use rs_kernel::{encode_piece, mul_add, restore_four, restore_piece};
+use rs_kernel::{encode_piece, mul_add, restore_piece, restore_pieces};
 use std::alloc::AllocError;
 use std::time::{Duration, Instant};
 use std::{env, io};
+use world_model::types::Ratio;
 
 /// The bytes of a piece.
 const SIZE: usize = 65536;
 
-/// The bytes of ten pieces.
-const TEN_PIECES: u64 = 655360;
-
 /// How often a call is repeated between two readings of the clock.
 const REPEATS: u64 = 200;
 
-/// The shards that are read where the first four are lost.
-const HAVE: [u8; 10] = [4, 5, 6, 7, 8, 9, 10, 11, 12, 13];
+/// The shards that are lost: the first, as many as there are parity shards.
+fn lost(ratio: Ratio) -> &'static [u8]
+    ensures count { length result.now ≡ parity_count ratio }
+    ensures shards { EachIndex result.now
+        (λ p. slice_index result.now p < data_count ratio + parity_count ratio) }
+{
+    match ratio {
+        Ratio::ThreeTwo => &[0, 1],
+        Ratio::SixThree => &[0, 1, 2],
+        Ratio::TenFour => &[0, 1, 2, 3],
+        Ratio::TwelveFour => &[0, 1, 2, 3],
+    }
+}
 
-/// The shards that are lost.
-const WANT: [u8; 4] = [0, 1, 2, 3];
+/// The shards that are read then.
+fn kept(ratio: Ratio) -> &'static [u8]
+    ensures { AreEnough (data_count ratio) (parity_count ratio) result.now }
+{
+    match ratio {
+        Ratio::ThreeTwo => &[2, 3, 4],
+        Ratio::SixThree => &[3, 4, 5, 6, 7, 8],
+        Ratio::TenFour => &[4, 5, 6, 7, 8, 9, 10, 11, 12, 13],
+        Ratio::TwelveFour => &[4, 5, 6, 7, 8, 9, 10, 11, 12, 13, 14, 15],
+    }
+}
 
 /// Bytes that no compiler can guess.
 fn fill(bytes: &mut [u8]) {
@@ -44,59 +64,124 @@ fn checksum(bytes: &[u8]) -> u64 {
     sum
 }
 
-/// Prints how many megabytes a second were read.
-fn report(rt: &HostRuntime, name: &str, bytes: u64, took: Duration) -> io::Result<()> {
+/// Prints how many megabytes a second were read, where each call reads so many pieces.
+fn report(rt: &HostRuntime, call: &str, word: &str, pieces: u8, took: Duration) -> io::Result<()> {
+    let bytes = u64::from(pieces) * SIZE as u64 * REPEATS;
     let micros = u64::try_from(took.as_micros()).unwrap_or(u64::MAX);
     let rate = bytes.checked_div(micros).unwrap_or(0);
-    println!(rt; "{name} {rate} MB/s")
+    println!(rt; "{call}_{word} {rate} MB/s")
 }
 
-fn time_encode(rt: &HostRuntime, pieces: &[u8], parity: &mut [u8]) -> io::Result<()>
-    requires pieces { length pieces.now ≡ 10 * SIZE }
-    requires parity { length parity.old ≡ 4 * SIZE }
+fn time_encode(rt: &HostRuntime, ratio: Ratio, pieces: &[u8], parity: &mut [u8]) -> io::Result<()>
+    requires { HaveOneSize (parity_count ratio) parity.old (data_count ratio) pieces.now }
 {
     let start = Instant::now(rt)?;
     for _ in 0..REPEATS {
-        encode_piece(pieces, parity);
+        encode_piece(ratio, pieces, parity);
     }
-    report(rt, "encode", TEN_PIECES * REPEATS, start.elapsed(rt)?)
+    report(
+        rt,
+        "encode",
+        ratio.word(),
+        ratio.data_count(),
+        start.elapsed(rt)?,
+    )
 }
 
-/// Times four lost shards at once.
-fn time_restore(rt: &HostRuntime, pieces: &[u8], lost: &mut [u8]) -> io::Result<()>
-    requires pieces { length pieces.now ≡ 10 * SIZE }
-    requires lost { length lost.old ≡ 4 * SIZE }
+/// Times all lost shards at once.
+fn time_restore(rt: &HostRuntime, ratio: Ratio, pieces: &[u8], made: &mut [u8]) -> io::Result<()>
+    requires { HaveOneSize (parity_count ratio) made.old (data_count ratio) pieces.now }
 {
+    let (have, want) = (kept(ratio), lost(ratio));
     let start = Instant::now(rt)?;
     for _ in 0..REPEATS {
-        restore_four(&HAVE, pieces, &WANT, lost);
+        restore_pieces(ratio, have, pieces, want, made);
     }
-    report(rt, "restore", TEN_PIECES * REPEATS, start.elapsed(rt)?)
+    report(
+        rt,
+        "restore",
+        ratio.word(),
+        ratio.data_count(),
+        start.elapsed(rt)?,
+    )
 }
 
 /// Times one lost shard.
-fn time_restore_one(rt: &HostRuntime, pieces: &[u8], out: &mut [u8]) -> io::Result<()>
-    requires pieces { length pieces.now ≡ 10 * SIZE }
-    requires out { length out.old ≡ SIZE }
+fn time_restore_one(rt: &HostRuntime, ratio: Ratio, pieces: &[u8], out: &mut [u8]) -> io::Result<()>
+    requires { length pieces.now ≡ data_count ratio * length out.old }
 {
+    let have = kept(ratio);
     let start = Instant::now(rt)?;
     for _ in 0..REPEATS {
-        restore_piece(&HAVE, pieces, WANT[0], out);
+        restore_piece(ratio, have, pieces, 0, out);
     }
-    report(rt, "restore_one", TEN_PIECES * REPEATS, start.elapsed(rt)?)
+    report(
+        rt,
+        "restore_one",
+        ratio.word(),
+        ratio.data_count(),
+        start.elapsed(rt)?,
+    )
 }
 
-/// Times ten multiples of one piece.
-fn time_mul_add(rt: &HostRuntime, piece: &[u8], out: &mut [u8]) -> io::Result<()>
-    requires { length piece.now ≡ length out.old }
+/// Prints what the calls make of the pieces.
+fn show(
+    rt: &HostRuntime,
+    ratio: Ratio,
+    pieces: &[u8],
+    made: &mut [u8],
+    out: &mut [u8],
+) -> io::Result<()>
+    requires made { HaveOneSize (parity_count ratio) made.old (data_count ratio) pieces.now }
+    requires out { length pieces.now ≡ data_count ratio * length out.old }
 {
-    let start = Instant::now(rt)?;
-    for _ in 0..REPEATS {
-        for c in 2..12u8 {
-            mul_add(out, piece, c);
-        }
+    let (word, have) = (ratio.word(), kept(ratio));
+    encode_piece(ratio, pieces, made);
+    println!(rt; "{word} parity {:016x}", checksum(made))?;
+    restore_pieces(ratio, have, pieces, lost(ratio), made);
+    println!(rt; "{word} restored {:016x}", checksum(made))?;
+    restore_piece(ratio, have, pieces, 0, out);
+    println!(rt; "{word} one restored {:016x}", checksum(out))
+}
+
+/// Shows what a ratio makes, and times it in so many rounds.
+fn try_ratio(rt: &HostRuntime, ratio: Ratio, rounds: usize) -> io::Result<()> {
+    let mut pieces = buffer(rt, usize::from(ratio.data_count()) * SIZE)?;
+    let mut made = buffer(rt, usize::from(ratio.parity_count()) * SIZE)?;
+    let mut out = buffer(rt, SIZE)?;
+    let (pieces, made, out) = (
+        pieces.as_mut_slice(),
+        made.as_mut_slice(),
+        out.as_mut_slice(),
+    );
+    fill(pieces);
+    show(rt, ratio, pieces, made, out)?;
+    for _ in 0..rounds {
+        time_encode(rt, ratio, pieces, made)?;
+        time_restore(rt, ratio, pieces, made)?;
+        time_restore_one(rt, ratio, pieces, out)?;
     }
-    report(rt, "mul_add", TEN_PIECES * REPEATS, start.elapsed(rt)?)
+    Ok(())
+}
+
+/// Shows a multiple of a piece, and times ten of them.
+fn try_multiples(rt: &HostRuntime, rounds: usize) -> io::Result<()> {
+    let mut piece = buffer(rt, SIZE)?;
+    let mut out = buffer(rt, SIZE)?;
+    let (piece, out) = (piece.as_mut_slice(), out.as_mut_slice());
+    fill(piece);
+    mul_add(out, piece, 150);
+    println!(rt; "multiple {:016x}", checksum(out))?;
+    for _ in 0..rounds {
+        let start = Instant::now(rt)?;
+        for _ in 0..REPEATS {
+            for c in 2..12u8 {
+                mul_add(out, piece, c);
+            }
+        }
+        report(rt, "mul_add", "ten", 10, start.elapsed(rt)?)?;
+    }
+    Ok(())
 }
 
 /// A buffer of zeros.
@@ -106,64 +191,11 @@ fn buffer(rt: &HostRuntime, size: usize) -> Result<Vec<u8>, AllocError>
     Vec::from_elem(rt.alloc(), 0u8, size)
 }
 
-/// Prints what the calls make.
-fn show(
-    rt: &HostRuntime,
-    pieces: &[u8],
-    piece: &[u8],
-    parity: &mut [u8],
-    out: &mut [u8],
-) -> io::Result<()>
-    requires pieces { length pieces.now ≡ 10 * SIZE }
-    requires piece { length piece.now ≡ SIZE }
-    requires parity { length parity.old ≡ 4 * SIZE }
-    requires out { length out.old ≡ SIZE }
-{
-    encode_piece(pieces, parity);
-    println!(rt; "parity {:016x}", checksum(parity))?;
-    restore_piece(&HAVE, pieces, WANT[0], out);
-    println!(rt; "restored {:016x}", checksum(out))?;
-    restore_four(&HAVE, pieces, &WANT, parity);
-    println!(rt; "four restored {:016x}", checksum(parity))?;
-    mul_add(out, piece, 150);
-    println!(rt; "added {:016x}", checksum(out))
-}
-
-/// Shows what the calls make, and times them once for each word.
-fn run(
-    rt: &HostRuntime,
-    pieces: &[u8],
-    piece: &[u8],
-    parity: &mut [u8],
-    out: &mut [u8],
-) -> io::Result<()>
-    requires pieces { length pieces.now ≡ 10 * SIZE }
-    requires piece { length piece.now ≡ SIZE }
-    requires parity { length parity.old ≡ 4 * SIZE }
-    requires out { length out.old ≡ SIZE }
-{
-    show(rt, pieces, piece, parity, out)?;
-    for _word in env::args(rt)?.skip(1) {
-        time_encode(rt, pieces, parity)?;
-        time_restore(rt, pieces, parity)?;
-        time_restore_one(rt, pieces, out)?;
-        time_mul_add(rt, piece, out)?;
-    }
-    Ok(())
-}
-
 fn main(rt: HostRuntime) -> io::Result<()> {
-    let mut pieces = buffer(&rt, 10 * SIZE)?;
-    let mut parity = buffer(&rt, 4 * SIZE)?;
-    let mut piece = buffer(&rt, SIZE)?;
-    let mut out = buffer(&rt, SIZE)?;
-    fill(pieces.as_mut_slice());
-    fill(piece.as_mut_slice());
-    run(
-        &rt,
-        pieces.as_slice(),
-        piece.as_slice(),
-        parity.as_mut_slice(),
-        out.as_mut_slice(),
-    )
+    let rounds = env::args(&rt)?.skip(1).count();
+    try_ratio(&rt, Ratio::ThreeTwo, rounds)?;
+    try_ratio(&rt, Ratio::SixThree, rounds)?;
+    try_ratio(&rt, Ratio::TenFour, rounds)?;
+    try_ratio(&rt, Ratio::TwelveFour, rounds)?;
+    try_multiples(&rt, rounds)
 }

@@ -1,8 +1,13 @@
 -- Pieces of equal length, one after the other.
-use Rattle.std.specs.Prelude.{◌≡◌, ℕ, ◌+◌, ◌*◌, ◌<◌, List, [], ◌++◌, length, map, get_or, slice_index}
+use Rattle.std.specs.Prelude.{◌≡◌, ◌⊎◌, ℕ, ◌+◌, ◌*◌, ◌/◌, ◌<◌, List, [], ◌++◌, length, map, get_or, slice_index}
 use Rattle.std.specs.List.{range_with_len}
 use Rattle.rs_code.specs.Codeword.{IsCodeword}
 use Rattle.rs_code.specs.Combination.{combination}
+use Rattle.rs_code.specs.Shards.{AreShards}
+
+-- how many pieces a sum may have: the data shards of some ratio
+abbrev pub IsPieceCount : ℕ → Type 0
+IsPieceCount k = (k ≡ 3) ⊎ (k ≡ 6) ⊎ (k ≡ 10) ⊎ (k ≡ 12)
 
 -- byte i of each of the pieces, which have n bytes
 abbrev pub column : ℕ → ℕ → ℕ → List ℕ → List ℕ
@@ -11,6 +16,20 @@ column count n i pieces = map (λ r. slice_index pieces (r * n + i)) (range_with
 -- the sum of the bytes of such a column, each times its coefficient
 abbrev pub weighed : ℕ → List ℕ → ℕ → ℕ → List ℕ → ℕ
 weighed count row n i pieces = combination row (column count n i pieces)
+
+-- so many pieces stand there, and so many here, all of one length
+abbrev pub HaveOneSize : ℕ → List ℕ → ℕ → List ℕ → Type 0
+HaveOneSize m there k here = (length there ≡ m * (length there / m)) × (length here ≡ k * (length there / m))
+
+-- k different shards of a code of k and m
+pub record AreEnough (k m : ℕ) (have : List ℕ) : Type 0 where
+  pub count : length have ≡ k
+  pub shards : AreShards (k + m) have
+
+-- the numbers from k on, m of them
+pub record AreBehind (k m : ℕ) (numbers : List ℕ) : Type 0 where
+  pub count : length numbers ≡ m
+  pub entries : (p : ℕ) → p < m → slice_index numbers p ≡ k + p
 
 -- coefficients that give shard `want` of each codeword
 abbrev pub IsRow : ℕ → ℕ → List ℕ → List ℕ → ℕ → Type 0
@@ -33,3 +52,7 @@ IsRestored k m n have pieces want out =
 abbrev pub AreRestored : ℕ → ℕ → ℕ → List ℕ → List ℕ → List ℕ → List ℕ → Type 0
 AreRestored k m n have pieces wants out =
     (p : ℕ) → p < length wants → (i : ℕ) → i < n → (c : List ℕ) → IsCodeword k m c → map (slice_index c) have ≡ column k n i pieces → slice_index out (p * n + i) ≡ slice_index c (slice_index wants p)
+
+-- each of the rows of coefficients gives one of the shards
+abbrev pub AreRows : ℕ → ℕ → List ℕ → List (List ℕ) → List ℕ → Type 0
+AreRows k m have rows wants = (p : ℕ) → p < length wants → IsRow k m have (get_or rows p []) (slice_index wants p)

@@ -9,14 +9,15 @@ use Rattle.world_model.specs.declared.types.Mode.TheVariants as mode
 use Rattle.world_model.specs.declared.types.Command.{Command}
 use Rattle.world_model.specs.declared.types.Command.TheVariants.{Encode, Rebuild, Balance, Decode}
 use Rattle.file_names.specs.declared.Kind.{Kind}
-use Rattle.file_names.specs.declared.Kind.TheVariants.{Dat, Idx, Shard, Ecj}
-use Rattle.file_names.specs.Names.{IsKind, shard_count}
+use Rattle.file_names.specs.declared.Kind.TheVariants.{Dat, Idx, Shard, Ecj, Cpd}
+use Rattle.file_names.specs.Names.{IsKind, max_shards}
 use Rattle.stripe_layout.specs.declared.Info.{Info}
 use Rattle.needle_record.specs.Records.{end_of}
 use Rattle.site_model.specs.Standing.{lose}
 use Rattle.image_meaning.specs.Files.{VolumeFiles, files_of, temps_of, lose_files, max_servers, stands, bytes_at, all_shards, standing}
 use Rattle.image_meaning.specs.Plain.{kept_at, index_home}
-use Rattle.image_meaning.specs.Coded.{data_count, volume_info, dat_of, deleted_at, coded_with}
+use Rattle.image_meaning.specs.Coded.{ratio_of, volume_info, dat_of, deleted_at, coded_with}
+use Rattle.world_model.specs.Ratios.{data_count, parity_count}
 use Rattle.image_meaning.specs.Meaning.{mode_of, volume_of, volume_in, lost_volume, meaning, max_volumes}
 use Rattle.image_meaning.specs.Sound.{Stands, IsHolder, IsPlain, IsCoded, IsSound}
 
@@ -34,12 +35,13 @@ pub record IsTidyPlain (files : VolumeFiles) : Type 0 where
   pub dat_length : length (bytes_at files home Dat) ≡ end_of (kept_at files home)
   pub alone : (server : ℕ) (kind : Kind) → IsKind kind → Stands files server kind → (server ≡ home) × ((kind ≡ Idx) ⊎ (kind ≡ Dat))
 
--- each shard at most once, equal journals of whole pairs, no data file, and files at holders alone
+-- each shard at most once, equal journals of whole pairs, no data file nor one that a vacuum made, and files at holders alone
 pub record IsTidyCoded (files : VolumeFiles) : Type 0 where
-  pub once : (s t i : ℕ) → i < shard_count → Stands files s (Shard i) → Stands files t (Shard i) → s ≡ t
+  pub once : (s t i : ℕ) → i < max_shards → Stands files s (Shard i) → Stands files t (Shard i) → s ≡ t
   pub same_journal : (s t : ℕ) → IsHolder files s → IsHolder files t → deleted_at files s ≡ deleted_at files t
   pub whole_journal : (server : ℕ) → IsHolder files server → bytes_at files server Ecj ≡ journal_bytes (deleted_at files server)
   pub no_dat : (server : ℕ) → server < max_servers → files server Dat ≡ None
+  pub no_cpd : (server : ℕ) → server < max_servers → files server Cpd ≡ None
   pub at_holders : (server : ℕ) (kind : Kind) → IsKind kind → Stands files server kind → IsHolder files server
 
 -- the volume is tidy; a lost one has no temporary file
@@ -57,8 +59,8 @@ IsTidy image = (v : ℕ) → v < max_volumes → IsTidyVolume (files_of image v)
 -- coded, each of all shards stands exactly once, and all journals are equal
 pub record IsWhole (files : VolumeFiles) : Type 0 where
   pub coded : IsCoded files
-  pub there : (i : ℕ) → i < shard_count → (server : ℕ) × Stands files server (Shard i)
-  pub once : (s t i : ℕ) → i < shard_count → Stands files s (Shard i) → Stands files t (Shard i) → s ≡ t
+  pub there : (i : ℕ) → i < data_count (ratio_of files) + parity_count (ratio_of files) → (server : ℕ) × Stands files server (Shard i)
+  pub once : (s t i : ℕ) → i < max_shards → Stands files s (Shard i) → Stands files t (Shard i) → s ≡ t
   pub same_journal : (s t : ℕ) → IsHolder files s → IsHolder files t → deleted_at files s ≡ deleted_at files t
 
 -- how many shards a server has
@@ -74,7 +76,7 @@ IsEven files servers = (s t : ℕ) → s < servers → t < servers → shards_at
 -- a plain volume keeps an index, and a coded one enough shards
 pub record SurvivesIn (files left : VolumeFiles) : Type 0 where
   pub index : IsPlain files → IsSome (index_home left)
-  pub shards : IsCoded files → data_count ≤ length (standing left)
+  pub shards : IsCoded files → data_count (ratio_of files) ≤ length (standing left)
 
 abbrev pub IsSurvivable : Image → (ℕ → Bool) → Type 0
 IsSurvivable image lost = (v : ℕ) → v < max_volumes → SurvivesIn (files_of image v) (lose_files (files_of image v) lost)
@@ -94,6 +96,7 @@ pub record IsCodedAfterLoss (files left : VolumeFiles) : Type 0 where
   pub stage : IsStage longest ids
   pub same_dat : dat_of left ≡ dat_of files
   pub means : volume_of left ≡ Some (coded_with (dat_of files) info ids)
+  pub of_holder : (server : ℕ) × IsHolder left server × (deleted_at left server ≡ ids)
 
 -- what a survivable loss leaves of a volume
 pub record IsAfterLoss (files left : VolumeFiles) : Type 0 where
@@ -132,7 +135,7 @@ unmarked mode.Coded = mode.Coded
 unmarked mode.Lost = mode.Lost
 
 abbrev pub changes_form : Command → Bool
-changes_form Encode = true
+changes_form (Encode ratio) = true
 changes_form Rebuild = false
 changes_form Balance = false
 changes_form Decode = true

@@ -1,11 +1,11 @@
 -- The files of one volume. What an image says of a volume is said of these alone.
-use Rattle.std.specs.Prelude.{◌≡◌, ℕ, zero, suc, Bool, false, true, is_some, if◌then◌else◌, List, [], Option, Some, None, filter, unwrap_or}
+use Rattle.std.specs.Prelude.{◌≡◌, ℕ, zero, suc, Bool, false, true, is_some, if◌then◌else◌, ◌&&◌, List, [], Option, Some, None, filter, unwrap_or}
 use Rattle.std.specs.List.{list_any, range_with_len}
 use Rattle.site_model.specs.Disk.{Place, Files, Image}
 use Rattle.site_model.specs.Disk as disk
 use Rattle.file_names.specs.declared.Kind.{Kind}
-use Rattle.file_names.specs.declared.Kind.TheVariants.{Shard}
-use Rattle.file_names.specs.Names.{name_bytes, shard_count}
+use Rattle.file_names.specs.declared.Kind.TheVariants.{Shard, Dat, Idx, Cpd, Cpx}
+use Rattle.file_names.specs.Names.{name_bytes, max_shards}
 
 -- what stands on a site
 abbrev pub contents : Files → Image
@@ -60,8 +60,26 @@ stands files server kind = is_some (files server kind)
 abbrev pub bytes_at : VolumeFiles → ℕ → Kind → List ℕ
 bytes_at files server kind = unwrap_or (files server kind) []
 
+-- the index of a server: what a vacuum made, where it stands
+unfoldable pub index_at : VolumeFiles → ℕ → Option (List ℕ)
+index_at files server = if stands files server Cpx then files server Cpx else files server Idx
+
+-- the data file of that index: until it is renamed it is beside an index that a vacuum made
+unfoldable pub dat_at : VolumeFiles → ℕ → Option (List ℕ)
+dat_at files server = if stands files server Cpx && stands files server Cpd then files server Cpd else files server Dat
+
+-- an index holder
+abbrev pub has_index : VolumeFiles → ℕ → Bool
+has_index files server = is_some (index_at files server)
+
+abbrev pub index_bytes : VolumeFiles → ℕ → List ℕ
+index_bytes files server = unwrap_or (index_at files server) []
+
+abbrev pub dat_bytes : VolumeFiles → ℕ → List ℕ
+dat_bytes files server = unwrap_or (dat_at files server) []
+
 abbrev pub all_shards : List ℕ
-all_shards = range_with_len 0 shard_count
+all_shards = range_with_len 0 max_shards
 
 -- a server with a shard of the volume
 unfoldable pub is_holder : VolumeFiles → ℕ → Bool

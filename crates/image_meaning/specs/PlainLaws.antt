@@ -1,5 +1,5 @@
 -- What the crates above need of plain volumes: a put, a cut, and a volume at one server.
-use Rattle.std.proofs.Common.{◌≡◌, ◌⊎◌, ℕ, zero, suc, ◌+◌, ◌*◌, ◌/◌, ◌^◌, ◌<◌, ◌≤◌, List, [], ◌∷◌, ◌++◌, length, map, take, drop, Bool, true, false, cond, Option, Some, None, is_some, IsTrue, pos, negsuc, FitsSigned, refl, sym, ◌∙◌, ap, subst, arith}
+use Rattle.std.proofs.Common.{◌≡◌, ◌⊎◌, inl, inr, ℕ, zero, suc, ◌+◌, ◌*◌, ◌/◌, ◌^◌, ◌<◌, ◌≤◌, List, [], ◌∷◌, ◌++◌, length, map, take, drop, Bool, true, false, cond, Option, Some, None, is_some, IsTrue, pos, negsuc, FitsSigned, refl, sym, ◌∙◌, ap, subst, arith}
 use Rattle.std.specs.Prelude.{◌==◌, ◌&&◌, ◌||◌, nat_le, nat_lt, if◌then◌else◌, filter, slice_index, unwrap_or, IfSome, option_map}
 use Rattle.std.specs.Int.{w32, cast_unsigned}
 use Rattle.std.specs.List.{range_with_len}
@@ -8,15 +8,15 @@ use mathlib.Core.Bool.{true≢false}
 use Rattle.std.proofs.Math.ListN.{length-append}
 use Rattle.std.proofs.lemmas.List.{append-nil, map-append, length-map, take-map, length-take, length-take-le, take-append-drop, drop-append-le, take_at}
 use Rattle.std.proofs.lemmas.List.Elements.{All-take}
-use Rattle.std.proofs.lemmas.Bool.{le-leb, leb-true, le-ltb}
+use Rattle.std.proofs.lemmas.Bool.{le-leb, leb-true, le-ltb, lt-leb}
 use Rattle.wire_num.specs.Numbers.{number_of, bytes_of}
 use Rattle.wire_num.specs.NumberLaws.{number_of-append, length-bytes_of}
 use Rattle.world_model.specs.Sizes.{Fits}
 use Rattle.world_model.specs.declared.types.Mode.{Mode}
 use Rattle.world_model.specs.declared.types.Mode.TheVariants as mode
 use Rattle.file_names.specs.declared.Kind.{Kind}
-use Rattle.file_names.specs.declared.Kind.TheVariants.{Dat, Idx, Shard}
-use Rattle.file_names.specs.Names.{IsKind, shard_count}
+use Rattle.file_names.specs.declared.Kind.TheVariants.{Dat, Idx, Shard, Cpx}
+use Rattle.file_names.specs.Names.{IsKind, max_shards}
 use Rattle.volume_forms.specs.declared.Entry.{Entry}
 use Rattle.volume_forms.specs.Forms.{entries, entries_within, entry_at, entry_bytes, has_super}
 use Rattle.volume_forms.specs.Kept.{kept_count, entry_eq}
@@ -27,15 +27,17 @@ use Rattle.needle_record.specs.Spelling.{HasRoom, canonical, length_of_record, r
 use Rattle.needle_record.specs.SpellingLaws.{length_of_record-least, record_size-fits}
 use Rattle.needle_record.specs.Records.{Placed, records, max_dat, end_of, entry_of, fold_records, index_of, AgreesAt, StandsIn}
 use Rattle.needle_record.specs.RecordsLaws.{records_from-nothing, records-write, whole_dat-write, records-cut, whole_dat-cut, records-stand, index_of-agrees, fold_records-used}
-use Rattle.image_meaning.specs.Files.{VolumeFiles, max_servers, stands, bytes_at, lowest, shard_home, standing}
+use Rattle.image_meaning.specs.Files.{VolumeFiles, max_servers, stands, bytes_at, has_index, index_at, dat_at, index_bytes, dat_bytes, lowest, shard_home, standing}
 use Rattle.image_meaning.specs.Plain.{kept, kept_records, kept_at, index_home, FollowsRecords, IsExact}
-use Rattle.image_meaning.specs.Coded.{data_count}
+use Rattle.image_meaning.specs.Coded.{ratio_of}
+use Rattle.world_model.specs.Ratios.{data_count, data_count-some}
 use Rattle.image_meaning.specs.Meaning.{mode_of, volume_of, volume_by}
 use Rattle.image_meaning.specs.Sound.{Stands, IsPlain, HasIndex, IsSoundVolume}
 use Rattle.image_meaning.specs.Ends.{HasNoFiles, IsTidyVolume}
 use Rattle.image_meaning.specs.Laws.Servers.{lowest-some, lowest-exists}
 use Rattle.image_meaning.specs.Laws.Torn.{kept-more, kept_records-more, kept_records-before}
 use Rattle.image_meaning.specs.Laws.PlainLoss.{plain_means, is_plain}
+use Rattle.image_meaning.specs.Laws.Views.{index_named, dat_named}
 use Rattle.image_meaning.specs.Laws.Survivable.{sound_plain, sound_neither, not_both}
 
 -- ---- super blocks
@@ -235,17 +237,38 @@ pub record IsAlone (files : VolumeFiles) (home : ℕ) (dat idx : List ℕ) : Typ
   pub alone : (server : ℕ) (kind : Kind) → IsKind kind → Stands files server kind → (server ≡ home) × ((kind ≡ Idx) ⊎ (kind ≡ Dat))
 
 module _ (files temps : VolumeFiles) (home : ℕ) (dat idx : List ℕ) (only : IsAlone files home dat idx) where
+  -- nothing that a vacuum made stands
+  none_made : (server : ℕ) → server < max_servers → stands files server Cpx ≡ false
+  none_made server below = by_test (stands files server Cpx) refl
+    where
+      no_kind : (Cpx ≡ Idx) ⊎ (Cpx ≡ Dat) → ⊥
+      no_kind (inl e) = cc
+      no_kind (inr e) = cc
+
+      by_test : (b : Bool) → stands files server Cpx ≡ b → stands files server Cpx ≡ false
+      by_test false e = e
+      by_test true e = absurd (no_kind (only.alone server Cpx tt (below, e)).1)
+
+  pub alone_index_at : index_at files home ≡ Some idx
+  alone_index_at = index_named files home (none_made home only.below) ∙ only.has_index
+
+  pub alone_dat_at : dat_at files home ≡ Some dat
+  alone_dat_at = dat_named files home (none_made home only.below) ∙ only.has_dat
+
+  pub alone_at : (server : ℕ) → HasIndex files server → server ≡ home
+  alone_at server has = (only.alone server Idx tt (has.0, ap is_some (sym (index_named files server (none_made server has.0))) ∙ has.1)).0
+
   alone_home : index_home files ≡ Some home
   alone_home =
-      let found = lowest-exists (λ s. stands files s Idx) home only.below (ap is_some only.has_index) in
-      let low = lowest-some (λ s. stands files s Idx) found.0 found.1 in
-      found.1 ∙ ap Some (only.alone found.0 Idx tt (low.1, low.0.passes)).0
+      let found = lowest-exists (has_index files) home only.below (ap is_some alone_index_at) in
+      let low = lowest-some (has_index files) found.0 found.1 in
+      found.1 ∙ ap Some (alone_at found.0 (low.1, low.0.passes))
 
-  dat_is : bytes_at files home Dat ≡ dat
-  dat_is = ap (λ (o : Option (List ℕ)). unwrap_or o []) only.has_dat
+  dat_is : dat_bytes files home ≡ dat
+  dat_is = ap (λ (o : Option (List ℕ)). unwrap_or o []) alone_dat_at
 
-  idx_is : bytes_at files home Idx ≡ idx
-  idx_is = ap (λ (o : Option (List ℕ)). unwrap_or o []) only.has_index
+  idx_is : index_bytes files home ≡ idx
+  idx_is = ap (λ (o : Option (List ℕ)). unwrap_or o []) alone_index_at
 
   pub alone_plain : IsPlain files
   alone_plain = is_plain files home alone_home
@@ -257,13 +280,13 @@ module _ (files temps : VolumeFiles) (home : ℕ) (dat idx : List ℕ) (only : I
   -- it is sound where its index follows its records
   pub alone_sound : FollowsRecords dat idx → IsTrue (has_super dat) → IsSoundVolume files
   alone_sound follows super =
-      let at_home : (P : ℕ → Type 0) (server : ℕ) → HasIndex files server → P home → P server = λ P server has holds. subst P (sym (only.alone server Idx tt has).0) holds in
+      let at_home : (P : ℕ → Type 0) (server : ℕ) → HasIndex files server → P home → P server = λ P server has holds. subst P (sym (alone_at server has)) holds in
       sound_plain files alone_plain (record {
         entries_follow = record {
-          all_but_one = λ server has. at_home (λ s. FollowsRecords (bytes_at files s Dat) (bytes_at files s Idx)) server has (subst (λ d. FollowsRecords d (bytes_at files home Idx)) (sym dat_is) (subst (FollowsRecords dat) (sym idx_is) follows));
+          all_but_one = λ server has. at_home (λ s. FollowsRecords (dat_bytes files s) (index_bytes files s)) server has (subst (λ d. FollowsRecords d (index_bytes files home)) (sym dat_is) (subst (FollowsRecords dat) (sym idx_is) follows));
         };
-        one_home = record { same = λ s t h k. ap (kept_at files) ((only.alone s Idx tt h).0 ∙ sym (only.alone t Idx tt k).0) };
-        super = record { there = λ server has. at_home (λ s. IsTrue (has_super (bytes_at files s Dat))) server has (ap has_super dat_is ∙ super) };
+        one_home = record { same = λ s t h k. ap (kept_at files) (alone_at s h ∙ sym (alone_at t k)) };
+        super = record { there = λ server has. at_home (λ s. IsTrue (has_super (dat_bytes files s))) server has (ap has_super dat_is ∙ super) };
       })
 
   -- it is tidy where both are exact
@@ -276,8 +299,8 @@ module _ (files temps : VolumeFiles) (home : ℕ) (dat idx : List ℕ) (only : I
           home = home;
           has_index = (only.below, ap is_some only.has_index);
           has_dat = (only.below, ap is_some only.has_dat);
-          index_length = ap length idx_is ∙ exact.index_length ∙ ap (λ qs. 16 * length qs) (sym kept_is);
-          dat_length = ap length dat_is ∙ sym exact.whole.to_end ∙ ap end_of (exact.has ∙ sym kept_is);
+          index_length = ap (λ (o : Option (List ℕ)). length (unwrap_or o [])) only.has_index ∙ exact.index_length ∙ ap (λ qs. 16 * length qs) (sym kept_is);
+          dat_length = ap (λ (o : Option (List ℕ)). length (unwrap_or o [])) only.has_dat ∙ sym exact.whole.to_end ∙ ap end_of (exact.has ∙ sym kept_is);
           alone = only.alone;
         };
         coded = λ c. absurd (not_both files alone_plain c);
@@ -289,10 +312,10 @@ module _ (files temps : VolumeFiles) (home : ℕ) (dat idx : List ℕ) (only : I
 
 -- ---- an absent volume
 
--- no index, no shard, and no data file with more than a super block
+-- no index holder, no shard, and no data file with more than a super block
 pub record IsAbsent (files : VolumeFiles) : Type 0 where
-  pub no_index : (server : ℕ) → server < max_servers → stands files server Idx ≡ false
-  pub no_shard : (server i : ℕ) → server < max_servers → i < shard_count → stands files server (Shard i) ≡ false
+  pub no_index : (server : ℕ) → server < max_servers → has_index files server ≡ false
+  pub no_shard : (server i : ℕ) → server < max_servers → i < max_shards → stands files server (Shard i) ≡ false
   pub short_dat : (server : ℕ) → server < max_servers → length (bytes_at files server Dat) ≤ 8
 
 pub lowest-all_fail : (test : ℕ → Bool) → ((s : ℕ) → s < 64 → test s ≡ false) → lowest test ≡ None
@@ -312,10 +335,11 @@ module _ (files : VolumeFiles) (absent : IsAbsent files) where
   pub absent_mode : mode_of files ≡ None
   unfolding mode_of standing
   absent_mode =
-      let home : index_home files ≡ None = lowest-all_fail (λ s. stands files s Idx) absent.no_index in
-      let shards = none_standing files 0 shard_count (λ i h. lowest-all_fail (λ s. stands files s (Shard i)) (λ s k. absent.no_shard s i k h)) in
+      let home : index_home files ≡ None = lowest-all_fail (has_index files) absent.no_index in
+      let shards = none_standing files 0 max_shards (λ i h. lowest-all_fail (λ s. stands files s (Shard i)) (λ s k. absent.no_shard s i k h)) in
       let dats : lowest (λ s. nat_lt 8 (length (bytes_at files s Dat))) ≡ None = lowest-all_fail (λ s. nat_lt 8 (length (bytes_at files s Dat))) (λ s k. short s (absent.short_dat s k)) in
-      λ i. if is_some (home i) then Some mode.Plain else if nat_le data_count (length (shards i)) then Some mode.Coded else if nat_lt 0 (length (shards i)) || is_some (dats i) then Some mode.Lost else None
+      (λ i. if is_some (home i) then Some mode.Plain else if nat_le (data_count (ratio_of files)) (length (shards i)) then Some mode.Coded else if nat_lt 0 (length (shards i)) || is_some (dats i) then Some mode.Lost else None)
+      ∙ ap (λ b. if b then Some mode.Coded else None) (lt-leb (data_count (ratio_of files)) 0 (data_count-some (ratio_of files)))
     where
       short : (s : ℕ) → length (bytes_at files s Dat) ≤ 8 → nat_lt 8 (length (bytes_at files s Dat)) ≡ false
       short s h = le-ltb 8 (length (bytes_at files s Dat)) h
@@ -325,7 +349,7 @@ module _ (files : VolumeFiles) (absent : IsAbsent files) where
   absent_means = ap (option_map (volume_by files)) absent_mode
 
   pub absent_sound : IsSoundVolume files
-  absent_sound = sound_neither files (λ p. none_some (sym absent_mode ∙ p)) (λ c. none_some (sym absent_mode ∙ c))
+  absent_sound = sound_neither files (λ p. none_some (sym absent_mode ∙ p)) (λ c. none_some (sym absent_mode ∙ c)) (λ l. absurd (none_some (sym absent_mode ∙ l)))
     where
       none_some : {m : Mode} → None ≡ Some m → ⊥
       none_some e = cc
@@ -333,7 +357,7 @@ module _ (files : VolumeFiles) (absent : IsAbsent files) where
 -- a volume with no files
 pub no_files_absent : (files : VolumeFiles) → HasNoFiles files → IsAbsent files
 no_files_absent files none = record {
-  no_index = λ server h. ap is_some (none server Idx h tt);
+  no_index = λ server h. ap is_some (index_named files server (ap is_some (none server Cpx h tt)) ∙ none server Idx h tt);
   no_shard = λ server i h k. ap is_some (none server (Shard i) h k);
   short_dat = λ server h. subst (λ (o : Option (List ℕ)). length (unwrap_or o []) ≤ 8) (sym (none server Dat h tt)) (omega arith);
 }
@@ -341,7 +365,7 @@ no_files_absent files none = record {
 -- a volume with short data files alone
 pub short_dats_absent : (files : VolumeFiles) → ((server : ℕ) (kind : Kind) → IsKind kind → Stands files server kind → (kind ≡ Dat) × (length (bytes_at files server kind) ≤ 8)) → IsAbsent files
 short_dats_absent files short = record {
-  no_index = λ server h. fails Idx server h tt (λ e. absurd cc);
+  no_index = λ server h. ap is_some (index_named files server (fails Cpx server h tt (λ e. absurd cc))) ∙ fails Idx server h tt (λ e. absurd cc);
   no_shard = λ server i h k. fails (Shard i) server h k (λ e. absurd cc);
   short_dat = λ server h. dats server h (files server Dat) refl;
 }

@@ -1,5 +1,6 @@
 use crate::cutting::cut_both;
 use crate::entering::{enter, entry_of, numbers_have_room, settle, take_back};
+use crate::holder::holder_at;
 use crate::index_file::{ENTRY, read_index};
 use crate::names::{final_name, temp_name};
 use crate::opening::{count_entries, examine};
@@ -41,6 +42,8 @@ impl DatVolume {
     ghost use Rattle.world_model.specs.Sizes.{Fits};
     ghost use Rattle.needle_record.specs.Spelling.{length_of_record};
     ghost use Rattle.needle_record.specs.Records.{Placed, fold_records};
+    ghost use Rattle.image_meaning.specs.Files.{contents, files_of, has_index};
+    ghost use Rattle.dat_volume.specs.Holding.{held_dat, held_index};
     ghost use Rattle.dat_volume.specs.Causes.{BlamesServer, ReadBlamesServer};
     ghost use Rattle.dat_volume.specs.Places.{dat_in, idx_in, idx_place};
     ghost use Rattle.dat_volume.specs.Writes.{NoneStands, Creates, IsCreated, Puts, IsPut, index_with};
@@ -147,10 +150,11 @@ impl DatVolume {
         })
     }
 
-    /// The lengths of the data file and of the index to keep. The offsets of the index's entries are to follow each
-    /// other, and their sizes to be those of records, but perhaps of the last entry, which is kept only where it
-    /// follows and has its record. Of the last two entries that are kept the records are looked at: both are to have
-    /// their own. `Unsound` has rule 1 where this is false, and else rule 3 where the super block isn't accepted.
+    /// The lengths to keep of the index of a server that is an index holder, and of its data file. The offsets of the
+    /// index's entries are to follow each other, and their sizes to be those of records, but perhaps of the last
+    /// entry, which is kept only where it follows and has its record. Of the last two entries that are kept the
+    /// records are looked at: both are to have their own. `Unsound` has rule 1 where this is false, and else rule 3
+    /// where the super block isn't accepted.
     pub fn check<T: Site>(
         alloc: Global,
         site: &mut T,
@@ -158,17 +162,16 @@ impl DatVolume {
         volume: u32,
     ) -> Result<(u64, u64), OpenFault>
         requires server { server < T.servers site.old }
-        requires stands { IsTrue T.tells → IsSome ((T.disk site.old).files (idx_place server volume)) }
-        ensures lengths { IfOk result (λ lengths. IsTrue T.tells → KeepsLengths (dat_in (T.disk site.old).files server volume) (idx_in (T.disk site.old).files server volume) lengths) }
-        ensures unsound { IfErr result (λ fault. Blames server volume fault × (IsTrue T.tells → TellsRule volume (dat_in (T.disk site.old).files server volume) (idx_in (T.disk site.old).files server volume) fault)) }
+        requires holder { IsTrue T.tells → IsTrue (has_index (files_of (contents (T.disk site.old).files) volume) server) }
+        ensures lengths { IfOk result (λ lengths. IsTrue T.tells → KeepsLengths (held_dat (T.disk site.old).files server volume) (held_index (T.disk site.old).files server volume) lengths) }
+        ensures unsound { IfErr result (λ fault. Blames server volume fault × (IsTrue T.tells → TellsRule volume (held_dat (T.disk site.old).files server volume) (held_index (T.disk site.old).files server volume) fault)) }
         ensures same { IsTrue T.tells → T.disk site.new ≡ T.disk site.old }
         ensures cause { HasCause server (T.counts site.old) (T.counts site.new) (IsErrOf result (OpenFault.Fault server)) }
         ensures servers { T.servers site.new ≡ T.servers site.old }
         ensures says { (T.counts site.new).say_faults ≡ (T.counts site.old).say_faults }
     {
-        let dat = final_name(alloc, volume, Kind::Dat)?;
-        let idx = final_name(alloc, volume, Kind::Idx)?;
-        let kept = examine(alloc, site, server, volume, &dat, &idx)?;
+        let holder = holder_at(alloc, site, server, volume)?;
+        let kept = examine(alloc, site, server, volume, &holder.dat, &holder.idx)?;
         Ok((kept.end, kept.count * ENTRY as u64))
     }
 
@@ -181,17 +184,16 @@ impl DatVolume {
         volume: u32,
     ) -> Result<u64, OpenFault>
         requires server { server < T.servers site.old }
-        requires stands { IsTrue T.tells → IsSome ((T.disk site.old).files (idx_place server volume)) }
-        ensures count { IfOk result (λ count. IsTrue T.tells → counted (dat_in (T.disk site.old).files server volume) (idx_in (T.disk site.old).files server volume) ≡ Ok count) }
-        ensures unsound { IfErr result (λ fault. Blames server volume fault × (IsTrue T.tells → TellsCount volume (dat_in (T.disk site.old).files server volume) (idx_in (T.disk site.old).files server volume) fault)) }
+        requires holder { IsTrue T.tells → IsTrue (has_index (files_of (contents (T.disk site.old).files) volume) server) }
+        ensures count { IfOk result (λ count. IsTrue T.tells → counted (held_dat (T.disk site.old).files server volume) (held_index (T.disk site.old).files server volume) ≡ Ok count) }
+        ensures unsound { IfErr result (λ fault. Blames server volume fault × (IsTrue T.tells → TellsCount volume (held_dat (T.disk site.old).files server volume) (held_index (T.disk site.old).files server volume) fault)) }
         ensures same { IsTrue T.tells → T.disk site.new ≡ T.disk site.old }
         ensures cause { HasCause server (T.counts site.old) (T.counts site.new) (IsErrOf result (OpenFault.Fault server)) }
         ensures servers { T.servers site.new ≡ T.servers site.old }
         ensures says { (T.counts site.new).say_faults ≡ (T.counts site.old).say_faults }
     {
-        let dat = final_name(alloc, volume, Kind::Dat)?;
-        let idx = final_name(alloc, volume, Kind::Idx)?;
-        let kept = count_entries(alloc, site, server, volume, &dat, &idx)?;
+        let holder = holder_at(alloc, site, server, volume)?;
+        let kept = count_entries(alloc, site, server, volume, &holder.dat, &holder.idx)?;
         Ok(kept.count)
     }
 

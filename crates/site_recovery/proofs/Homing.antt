@@ -1,26 +1,29 @@
 -- What is known of a volume's homes, as far as servers were asked.
 use Rattle.std.proofs.Common.{◌≡◌, inl, inr, ⊎_elim, ℕ, zero, suc, ◌+◌, ◌*◌, ◌<◌, ◌≤◌, true, false, cond, Option, Some, None, is_some, IsTrue, Result, Ok, List, [], ◌∷◌, ◌++◌, length, take, filter, refl, sym, ◌∙◌, ap, subst, arith}
 use Rattle.std.proofs.lemmas.List.{length-take-le}
-use Rattle.std.specs.Prelude.{nat_lt, nat_le, ◌||◌, unwrap_or, if◌then◌else◌, slice_get, Contains}
+use Rattle.std.specs.Prelude.{nat_lt, nat_le, ◌||◌, unwrap_or, if◌then◌else◌, slice_get, option_map, Contains}
 use Rattle.std.specs.List.{range_with_len}
 use mathlib.Core.Bool.{true≢false}
-use Rattle.std.proofs.lemmas.Bool.{cases_eq, cases_lt, lt-ltb, le-ltb}
+use Rattle.std.proofs.lemmas.Bool.{cases_eq, cases_lt, lt-ltb, le-ltb, lt-leb}
 use Rattle.std.proofs.lemmas.List.Elements.{Contains-append_left, Contains-push, Contains-push_cases}
 use Rattle.site_model.specs.Disk.{File, Files, IsPossible, size_of, bytes_of}
 use Rattle.site_model.specs.Disk as disk
 use Rattle.world_model.specs.declared.types.Mode.TheVariants as mode
 use Rattle.wire_num.specs.NumberLaws.{AreBytes}
 use Rattle.volume_forms.specs.Forms.{has_super}
-use Rattle.file_names.specs.declared.Kind.TheVariants.{Dat, Idx, Shard}
-use Rattle.file_names.specs.Names.{shard_count}
-use Rattle.image_meaning.specs.Files.{VolumeFiles, contents, place_of, files_of, stands, bytes_at, shard_home, standing}
+use Rattle.file_names.specs.declared.Kind.TheVariants.{Dat, Idx, Shard, Cpx}
+use Rattle.file_names.specs.Names.{max_shards}
+use Rattle.image_meaning.specs.Files.{VolumeFiles, contents, place_of, files_of, stands, bytes_at, shard_home, standing, has_index, index_bytes, dat_bytes}
+use Rattle.file_names.specs.declared.Kind.{Kind}
 use Rattle.image_meaning.specs.Plain.{index_home}
-use Rattle.image_meaning.specs.Coded.{data_count}
+use Rattle.image_meaning.specs.Coded.{ratio_of}
+use Rattle.world_model.specs.Ratios.{data_count, data_count-some}
 use Rattle.image_meaning.specs.Meaning.{mode_of, has_long_dat, max_volumes}
 use Rattle.image_meaning.specs.Sound.{HasIndex, HasEntries, HasOneHome, HasSuper, IsPlain}
 use Rattle.image_meaning.specs.PlainLaws.{lowest-all_fail}
 use Rattle.image_meaning.specs.Laws.Servers.{lowest-some, lowest-exists}
 use Rattle.image_meaning.specs.Laws.PlainLoss.{is_plain}
+use Rattle.image_meaning.specs.Laws.Views.{index_named}
 use Rattle.dat_volume.specs.Opening.{counted}
 use Rattle.dat_volume.specs.OpeningLaws.{counted-idx}
 use Rattle.site_recovery.specs.Recovering.{HasNoCoded}
@@ -36,24 +39,18 @@ pub bytes_same : (o : Option File) → unwrap_or (disk.standing o) [] ≡ bytes_
 bytes_same None = refl
 bytes_same (Some file) = refl
 
-module _ (files : Files) (v server : ℕ) where
-  pub count_same : (result : Result ℕ ℕ) → counted (bytes_of (files (place_of v server Dat false))) (bytes_of (files (place_of v server Idx false))) ≡ result → count_at (files_of (contents files) v) server ≡ result
-  count_same result e =
-      let dat = bytes_same (files (place_of v server Dat false)) in
-      let idx = bytes_same (files (place_of v server Idx false)) in
-      (λ i. counted (dat i) (idx i)) ∙ e
-
 -- no more entries are counted than the index has
 pub counted_within : (dat idx : List ℕ) (n : ℕ) → counted dat idx ≡ Ok n → 16 * n ≤ length idx
 counted_within dat idx n e = counted-idx dat idx n e
 
-pub size_some : (o : Option File) (n : ℕ) → Some n ≡ size_of o → (n ≡ length (bytes_of o)) × (is_some (disk.standing o) ≡ true)
-size_some None n e = absurd cc
-size_some (Some file) n e = (cc, refl)
+-- an index of this size stands, or none does
+pub sized : (o : Option (List ℕ)) (size : ℕ) → Some size ≡ option_map length o → (size ≡ length (unwrap_or o [])) × (is_some o ≡ true)
+sized None size e = absurd cc
+sized (Some bytes) size e = (cc, refl)
 
-pub size_none : (o : Option File) → None ≡ size_of o → is_some (disk.standing o) ≡ false
-size_none None e = refl
-size_none (Some file) e = absurd cc
+pub unsized : (o : Option (List ℕ)) → None ≡ option_map length o → is_some o ≡ false
+unsized None e = refl
+unsized (Some bytes) e = absurd cc
 
 -- ---- the homes of the first servers
 
@@ -68,9 +65,9 @@ first_push : (files : VolumeFiles) (n : ℕ) (homes : List Home) (home : Home) �
 first_push files n [] home is none = λ server low. none server (omega (arith, is))
 first_push files n (first ∷ homes) home is none = none
 
-first_skip : (files : VolumeFiles) (n : ℕ) (homes : List Home) → stands files n Idx ≡ false → HasNoneBefore files n (slice_get homes 0) → HasNoneBefore files (n + 1) (slice_get homes 0)
+first_skip : (files : VolumeFiles) (n : ℕ) (homes : List Home) → has_index files n ≡ false → HasNoneBefore files n (slice_get homes 0) → HasNoneBefore files (n + 1) (slice_get homes 0)
 first_skip files n [] out none = λ server low. elim (cases_eq server n) [
-  | inl same ↦ ap (λ s. stands files s Idx) same ∙ out
+  | inl same ↦ ap (has_index files) same ∙ out
   | inr other ↦ none server (omega arith)
 ]
 first_skip files n (first ∷ homes) out none = none
@@ -85,28 +82,31 @@ homes_push files n homes home is at_home are = record {
   first = first_push files n homes home is are.first;
 }
 
-pub homes_skip : (files : VolumeFiles) (n : ℕ) (homes : List Home) → stands files n Idx ≡ false → AreHomes files n homes → AreHomes files (n + 1) homes
+pub homes_skip : (files : VolumeFiles) (n : ℕ) (homes : List Home) → has_index files n ≡ false → AreHomes files n homes → AreHomes files (n + 1) homes
 homes_skip files n homes out are = record {
   each = are.each;
   all = λ server low index. elim (cases_eq server n) [
-    | inl same ↦ absurd (true≢false (sym index.1 ∙ ap (λ s. stands files s Idx) same ∙ out))
+    | inl same ↦ absurd (true≢false (sym index.1 ∙ ap (has_index files) same ∙ out))
     | inr other ↦ are.all server (omega arith) index
   ];
   first = first_skip files n homes out are.first;
 }
 
 -- at servers that there aren't no index stands
-pub none_above : (files : Files) (v servers : ℕ) → IsPossible servers files → (server : ℕ) → servers ≤ server → stands (files_of (contents files) v) server Idx ≡ false
-none_above files v servers possible server high = ap (λ (o : Option File). is_some (disk.standing o)) (possible.nowhere_else (place_of v server Idx false) high)
+pub none_above : (files : Files) (v servers : ℕ) → IsPossible servers files → (server : ℕ) → servers ≤ server → has_index (files_of (contents files) v) server ≡ false
+none_above files v servers possible server high = ap is_some (index_named (files_of (contents files) v) server (ap is_some (gone Cpx)) ∙ gone Idx)
+  where
+    gone : (kind : Kind) → files_of (contents files) v server kind ≡ None
+    gone kind = ap disk.standing (possible.nowhere_else (place_of v server kind false) high)
 
-first_all : (files : VolumeFiles) (n : ℕ) (homes : List Home) → ((server : ℕ) → n ≤ server → stands files server Idx ≡ false) → HasNoneBefore files n (slice_get homes 0) → HasNoneBefore files 64 (slice_get homes 0)
+first_all : (files : VolumeFiles) (n : ℕ) (homes : List Home) → ((server : ℕ) → n ≤ server → has_index files server ≡ false) → HasNoneBefore files n (slice_get homes 0) → HasNoneBefore files 64 (slice_get homes 0)
 first_all files n [] above none = λ server low. elim (cases_lt server n) [
   | inl below ↦ none server below
   | inr high ↦ above server high
 ]
 first_all files n (first ∷ homes) above none = none
 
-pub homes_all : (files : VolumeFiles) (n : ℕ) (homes : List Home) → ((server : ℕ) → n ≤ server → stands files server Idx ≡ false) → AreHomes files n homes → AreHomes files 64 homes
+pub homes_all : (files : VolumeFiles) (n : ℕ) (homes : List Home) → ((server : ℕ) → n ≤ server → has_index files server ≡ false) → AreHomes files n homes → AreHomes files 64 homes
 homes_all files n homes above are = record {
   each = are.each;
   all = λ server low index. elim (cases_lt server n) [
@@ -132,8 +132,8 @@ module _ (files : VolumeFiles) (homes : List Home) (are : AreHomes files 64 home
   pub home_is_first : (first : Home) → slice_get homes 0 ≡ Some first → index_home files ≡ Some first.server
   home_is_first first e =
       let home = first_home first e in
-      let found = lowest-exists (λ s. stands files s Idx) first.server home.has.0 home.has.1 in
-      let low = lowest-some (λ s. stands files s Idx) found.0 found.1 in
+      let found = lowest-exists (has_index files) first.server home.has.0 home.has.1 in
+      let low = lowest-some (has_index files) found.0 found.1 in
       let below = subst (HasNoneBefore files 64) e are.first in
       found.1 ∙ ap Some (neither found.0 (λ less. true≢false (sym low.0.passes ∙ below found.0 less)) (λ more. true≢false (sym home.has.1 ∙ low.0.first first.server (omega arith) more)))
     where
@@ -155,22 +155,22 @@ module _ (files : VolumeFiles) (homes : List Home) (are : AreHomes files 64 home
       let other = are.all t k.0 k in
       subst (λ u. kept_index files u ≡ kept_index files t) one.2 (subst (λ u. kept_index files one.0.server ≡ kept_index files u) other.2 (sym (agree one.0 one.1) ∙ agree other.0 other.1))
 
-  pub supers_pass : ((home : Home) → Contains homes home → IsTrue (has_super (bytes_at files home.server Dat))) → HasSuper files
+  pub supers_pass : ((home : Home) → Contains homes home → IsTrue (has_super (dat_bytes files home.server))) → HasSuper files
   supers_pass each = record {
-    there = λ server index. let found = are.all server index.0 index in subst (λ s. IsTrue (has_super (bytes_at files s Dat))) found.2 (each found.0 found.1);
+    there = λ server index. let found = are.all server index.0 index in subst (λ s. IsTrue (has_super (dat_bytes files s))) found.2 (each found.0 found.1);
   }
 
-  pub no_home : slice_get homes 0 ≡ None → (server : ℕ) → server < 64 → stands files server Idx ≡ false
+  pub no_home : slice_get homes 0 ≡ None → (server : ℕ) → server < 64 → has_index files server ≡ false
   no_home e = subst (HasNoneBefore files 64) e are.first
 
 -- ---- where two homes keep the same
 
 -- what is kept is a front of the index
-pub kept_front : (files : VolumeFiles) (home : Home) → IsHome files home → kept_index files home.server ≡ take home.kept (bytes_at files home.server Idx)
-kept_front files home at_home = ap (entries_in (bytes_at files home.server Idx)) at_home.counts ∙ ap (λ n. take n (bytes_at files home.server Idx)) (sym at_home.kept)
+pub kept_front : (files : VolumeFiles) (home : Home) → IsHome files home → kept_index files home.server ≡ take home.kept (index_bytes files home.server)
+kept_front files home at_home = ap (entries_in (index_bytes files home.server)) at_home.counts ∙ ap (λ n. take n (index_bytes files home.server)) (sym at_home.kept)
 
-pub kept_within : (files : VolumeFiles) (home : Home) → IsHome files home → home.kept ≤ length (bytes_at files home.server Idx)
-kept_within files home at_home = omega (arith, at_home.kept, counted_within (bytes_at files home.server Dat) (bytes_at files home.server Idx) at_home.count at_home.counts)
+pub kept_within : (files : VolumeFiles) (home : Home) → IsHome files home → home.kept ≤ length (index_bytes files home.server)
+kept_within files home at_home = omega (arith, at_home.kept, counted_within (dat_bytes files home.server) (index_bytes files home.server) at_home.count at_home.counts)
 
 -- other lengths can't be kept of a sound volume, nor the same
 pub lengths_differ : (files : VolumeFiles) (home other : Home) → IsHome files home → IsHome files other → (home.kept ≡ other.kept → ⊥) → HasEntries files → HasOneHome files → ⊥
@@ -182,7 +182,7 @@ pub fronts_differ : (files : VolumeFiles) (home other : Home) → IsHome files h
 fronts_differ files home other h k all more differ follow one = differ (same_fronts files home.server other.server h.has k.has all more follow one)
 
 kept_long : (files : VolumeFiles) (home : Home) → IsHome files home → length (kept_index files home.server) ≡ home.kept
-kept_long files home at_home = ap length (kept_front files home at_home) ∙ length-take-le home.kept (bytes_at files home.server Idx) (kept_within files home at_home)
+kept_long files home at_home = ap length (kept_front files home at_home) ∙ length-take-le home.kept (index_bytes files home.server) (kept_within files home at_home)
 
 -- homes that keep other lengths keep other bytes
 pub lengths_kept : (files : VolumeFiles) (home other : Home) → IsHome files home → IsHome files other → kept_index files home.server ≡ kept_index files other.server → home.kept ≡ other.kept
@@ -191,7 +191,7 @@ lengths_kept files home other h k same = sym (kept_long files home h) ∙ ap len
 -- ---- which rule is broken
 
 pub index_plain : (files : VolumeFiles) (server : ℕ) → HasIndex files server → IsPlain files
-index_plain files server has = let found = lowest-exists (λ s. stands files s Idx) server has.0 has.1 in is_plain files found.0 found.1
+index_plain files server has = let found = lowest-exists (has_index files) server has.0 has.1 in is_plain files found.0 found.1
 
 pub plain_by : (files : VolumeFiles) (home : Home) → IsHome files home → IsPlain files
 plain_by files home at_home = index_plain files home.server at_home.has
@@ -212,18 +212,20 @@ none_standing files a (suc n) none =
     ap (λ b. cond b (a ∷ filter (λ i. is_some (shard_home files i)) (range_with_len (a + 1) n)) (filter (λ i. is_some (shard_home files i)) (range_with_len (a + 1) n))) (ap is_some (none a (omega arith)))
     ∙ none_standing files (a + 1) n (λ i h. none i (omega arith))
 
-pub mode_by_data : (files : Files) (v : ℕ) → v < max_volumes → HasNoCoded files → ((server : ℕ) → server < 64 → stands (files_of (contents files) v) server Idx ≡ false)
+pub mode_by_data : (files : Files) (v : ℕ) → v < max_volumes → HasNoCoded files → ((server : ℕ) → server < 64 → has_index (files_of (contents files) v) server ≡ false)
     → mode_of (files_of (contents files) v) ≡ (if has_long_dat (files_of (contents files) v) then Some mode.Lost else None)
 unfolding mode_of standing
 mode_by_data files v h none no_index =
-    let home : index_home (files_of (contents files) v) ≡ None = lowest-all_fail (λ s. stands (files_of (contents files) v) s Idx) no_index in
-    let shards = none_standing (files_of (contents files) v) 0 shard_count (λ i low. lowest-all_fail (λ s. stands (files_of (contents files) v) s (Shard i)) (λ s k. no_shard i low s)) in
-    λ i. if is_some (home i) then Some mode.Plain else if nat_le data_count (length (shards i)) then Some mode.Coded else if nat_lt 0 (length (shards i)) || has_long_dat (files_of (contents files) v) then Some mode.Lost else None
+    let home : index_home (files_of (contents files) v) ≡ None = lowest-all_fail (has_index (files_of (contents files) v)) no_index in
+    let shards = none_standing (files_of (contents files) v) 0 max_shards (λ i low. lowest-all_fail (λ s. stands (files_of (contents files) v) s (Shard i)) (λ s k. no_shard i low s)) in
+    let few : nat_le (data_count (ratio_of (files_of (contents files) v))) 0 ≡ false = lt-leb _ _ (data_count-some (ratio_of (files_of (contents files) v))) in
+    (λ i. if is_some (home i) then Some mode.Plain else if nat_le (data_count (ratio_of (files_of (contents files) v))) (length (shards i)) then Some mode.Coded else if nat_lt 0 (length (shards i)) || has_long_dat (files_of (contents files) v) then Some mode.Lost else None)
+    ∙ ap (λ b. if b then Some mode.Coded else if has_long_dat (files_of (contents files) v) then Some mode.Lost else None) few
   where
-    no_shard : (i : ℕ) → i < shard_count → (s : ℕ) → stands (files_of (contents files) v) s (Shard i) ≡ false
+    no_shard : (i : ℕ) → i < max_shards → (s : ℕ) → stands (files_of (contents files) v) s (Shard i) ≡ false
     no_shard i low s = ap (λ (o : Option File). is_some (disk.standing o)) (no_coded_at files v s (Shard i) false h none low)
 
-pub none_passes : (files : VolumeFiles) → ((server : ℕ) → server < 64 → stands files server Idx ≡ false) → PassesTests files
+pub none_passes : (files : VolumeFiles) → ((server : ℕ) → server < 64 → has_index files server ≡ false) → PassesTests files
 none_passes files none = record {
   entries_follow = λ server index. absurd (out server index);
   one_home = λ s t h k. absurd (out s h);

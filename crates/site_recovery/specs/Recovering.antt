@@ -12,9 +12,9 @@ use Rattle.world_model.specs.World.{Volume}
 use Rattle.world_model.specs.declared.types.Mode.{Mode}
 use Rattle.world_model.specs.declared.types.Mode.TheVariants as mode
 use Rattle.file_names.specs.declared.Kind.{Kind}
-use Rattle.file_names.specs.declared.Kind.TheVariants.{Dat, Idx, Shard, Ecx, Ecj, Vif}
-use Rattle.file_names.specs.Names.{IsKind, shard_count}
-use Rattle.image_meaning.specs.Files.{VolumeFiles, contents, place_of, files_of, temps_of, bytes_at}
+use Rattle.file_names.specs.declared.Kind.TheVariants.{Dat, Idx, Shard, Ecx, Ecj, Vif, Cpd, Cpx}
+use Rattle.file_names.specs.Names.{IsKind, max_shards}
+use Rattle.image_meaning.specs.Files.{VolumeFiles, contents, place_of, files_of, temps_of, bytes_at, index_at, dat_at, index_bytes, dat_bytes}
 use Rattle.image_meaning.specs.Plain.{index_home}
 use Rattle.image_meaning.specs.Meaning.{mode_of, volume_in, max_volumes}
 use Rattle.image_meaning.specs.Sound.{IsSound, IsPlain, KeepsRule, KeepsRecords, Stands}
@@ -36,7 +36,9 @@ IsNamed k = (v : ℕ) × (server : ℕ) × (kind : Kind) × (temp : Bool) × (v 
 abbrev pub IsCodedKind : Kind → Type 0
 IsCodedKind Dat = ⊥
 IsCodedKind Idx = ⊥
-IsCodedKind (Shard i) = i < shard_count
+IsCodedKind Cpd = ⊥
+IsCodedKind Cpx = ⊥
+IsCodedKind (Shard i) = i < max_shards
 IsCodedKind Ecx = Unit {0}
 IsCodedKind Ecj = Unit {0}
 IsCodedKind Vif = Unit {0}
@@ -102,9 +104,9 @@ pub record Finds (found : Recovered) (servers : ℕ) (files : Files) : Type 0 wh
 -- Beside its index at the home stands its data file, both of the lengths that the tests gave, and no other file does.
 pub record IsLeftPlain (old new : VolumeFiles) (home : ℕ) : Type 0 where
   pub lengths : ℕ × ℕ
-  pub keeps : KeepsLengths (bytes_at old home Dat) (bytes_at old home Idx) lengths
-  pub dat_cut : (bytes : List ℕ) → old home Dat ≡ Some bytes → new home Dat ≡ Some (take lengths.0 bytes)
-  pub idx_cut : (bytes : List ℕ) → old home Idx ≡ Some bytes → new home Idx ≡ Some (take lengths.1 bytes)
+  pub keeps : KeepsLengths (dat_bytes old home) (index_bytes old home) lengths
+  pub dat_cut : (bytes : List ℕ) → dat_at old home ≡ Some bytes → new home Dat ≡ Some (take lengths.0 bytes)
+  pub idx_cut : (bytes : List ℕ) → index_at old home ≡ Some bytes → new home Idx ≡ Some (take lengths.1 bytes)
   pub alone : (server : ℕ) (kind : Kind) → IsKind kind → Stands new server kind → (server ≡ home) × ((kind ≡ Idx) ⊎ (kind ≡ Dat))
 
 -- what recovery makes of a volume's files

@@ -11,24 +11,26 @@ use Rattle.site_model.specs.Touches.{firm_left}
 use Rattle.world_model.specs.declared.types.Mode.{Mode}
 use Rattle.world_model.specs.declared.types.Mode.TheVariants as mode
 use Rattle.file_names.specs.declared.Kind.{Kind}
-use Rattle.file_names.specs.declared.Kind.TheVariants.{Dat, Idx, Shard}
+use Rattle.file_names.specs.declared.Kind.TheVariants.{Dat, Idx, Cpd, Cpx, Shard}
 use Rattle.file_names.specs.declared.FileName.{FileName}
-use Rattle.file_names.specs.Names.{IsKind, shard_count}
+use Rattle.file_names.specs.Names.{IsKind, max_shards}
 use Rattle.file_names.specs.NameLaws.{same_name}
 use Rattle.volume_forms.specs.Forms.{has_super}
 use Rattle.needle_record.specs.Records.{end_of, fold_records}
-use Rattle.image_meaning.specs.Files.{VolumeFiles, place_of, files_of, lose_files, max_servers, stands, bytes_at, shard_home, standing, SameVolume, lowest}
+use Rattle.image_meaning.specs.Files.{VolumeFiles, place_of, files_of, lose_files, max_servers, stands, bytes_at, has_index, index_at, dat_at, index_bytes, dat_bytes, shard_home, standing, SameVolume, lowest}
 use Rattle.image_meaning.specs.Plain.{kept, kept_records, index_home, FollowsRecords}
-use Rattle.image_meaning.specs.Coded.{data_count}
+use Rattle.image_meaning.specs.Coded.{ratio_of}
+use Rattle.world_model.specs.Ratios.{data_count}
 use Rattle.image_meaning.specs.Meaning.{mode_of, volume_of, max_volumes, has_long_dat}
 use Rattle.image_meaning.specs.Sound.{IsPlain, HasIndex, HasOneHome, IsSoundVolume, IsSoundPlain, IsSound}
 use Rattle.image_meaning.specs.Ends.{SurvivesIn}
 use Rattle.image_meaning.specs.Laws.Servers.{lowest-some, lowest-none, lowest-exists}
 use Rattle.image_meaning.specs.Laws.Local.{same_files}
+use Rattle.image_meaning.specs.Laws.Views.{index_named, dat_named, made_has, same_index_at, same_dat_at, index_at-lost}
 use Rattle.image_meaning.specs.Laws.PlainLoss.{is_plain, plain_means, plain_loss, home_has}
 use Rattle.image_meaning.specs.Laws.Survivable.{sound_plain, plain_rules, not_both}
 use Rattle.image_meaning.specs.PlainLaws.{IsAbsent, absent_mode, absent_means, absent_sound, has_super-long, cut_exact, cut_dat-kept_records, cut_dat-follows, cut_index-kept_records, cut_index-follows, cut_super, exact_kept_records, exact_follows}
-use Rattle.image_meaning.specs.CopyLaws.{HasFewerCopies, same_copies, fewer_and_fewer, fewer_may_have, lose_thinned, one_gone, volumes_apart, temp_apart, others_left}
+use Rattle.image_meaning.specs.CopyLaws.{HasFewerCopies, IsThinned, thinned_same, thinned_stood, same_copies, fewer_and_fewer, fewer_may_have, volumes_apart, temp_apart, others_left}
 use Rattle.dat_volume.specs.Opening.{KeepsLengths, IsCutOrNot}
 use Rattle.site_recovery.specs.Recovering.{IsLeftSound}
 use Rattle.site_recovery.specs.Steps.{KeepsMeaning, KeepsBeside, IsReduced, IsSameOrCut, IsSameOrGone}
@@ -63,13 +65,13 @@ left_sound opening image sound keeps = record {
 }
 
 -- a volume of which no file changes
-same_volume : (old new : Image) (v : ℕ) → SameVolume v new old → IsSoundVolume (files_of old v) → IsSoundVolume (files_of new v) × HasFewerCopies (files_of old v) (files_of new v)
+pub same_volume : (old new : Image) (v : ℕ) → SameVolume v new old → IsSoundVolume (files_of old v) → IsSoundVolume (files_of new v) × HasFewerCopies (files_of old v) (files_of new v)
 same_volume old new v same sound =
     let files = same_files v new old same in
     (subst IsSoundVolume (sym files) sound, same_copies (files_of old v) (files_of new v) files)
 
 -- only files of one volume change
-one_volume : (old new : Image) (v : ℕ) → v < max_volumes → ((k : Place) → ((server : ℕ) (kind : Kind) → k ≢ place_of v server kind false) → new k ≡ old k)
+pub one_volume : (old new : Image) (v : ℕ) → v < max_volumes → ((k : Place) → ((server : ℕ) (kind : Kind) → k ≢ place_of v server kind false) → new k ≡ old k)
     → (IsSoundVolume (files_of old v) → IsSoundVolume (files_of new v) × HasFewerCopies (files_of old v) (files_of new v)) → KeepsMeaning old new
 one_volume old new v h others here w k = elim (cases_eq w v) [
   | inl same ↦ subst (λ u. IsSoundVolume (files_of old u) → IsSoundVolume (files_of new u) × HasFewerCopies (files_of old u) (files_of new u)) (sym same) here
@@ -92,9 +94,9 @@ module _ (files left : VolumeFiles) (home : ℕ) (at : index_home files ≡ Some
   -- it stays at its home
   pub reduced_home : index_home left ≡ Some home
   reduced_home =
-      let found = lowest-exists (λ s. stands left s Idx) home reduced.has_index.0 reduced.has_index.1 in
-      let low = lowest-some (λ s. stands left s Idx) found.0 found.1 in
-      let was = lowest-some (λ s. stands files s Idx) home at in
+      let found = lowest-exists (has_index left) home reduced.has_index.0 reduced.has_index.1 in
+      let low = lowest-some (has_index left) found.0 found.1 in
+      let was = lowest-some (has_index files) home at in
       found.1 ∙ ap Some (neither found.0 (λ less. true≢false (sym (reduced.had_index found.0 (low.1, low.0.passes)).1 ∙ was.0.first found.0 (omega arith) less))
       (λ more. true≢false (sym reduced.has_index.1 ∙ low.0.first home (omega arith) more)))
     where
@@ -138,8 +140,7 @@ module _ (files left : VolumeFiles) (home : ℕ) (at : index_home files ≡ Some
       survives = survives;
       leaves = λ lost h.
           let now = some_index (lose_files left lost) (h.index (is_plain left home reduced_home)) in
-          let was = some_index (lose_files files lost) ((survives lost h).index was_plain) in
-          plain_loss left lost (is_plain left home reduced_home) left_home now.0 now.1 ∙ reduced_means ∙ sym (plain_loss files lost was_plain rules.one_home was.0 was.1);
+          inr (plain_loss left lost (is_plain left home reduced_home) left_home now.0 now.1 ∙ reduced_means);
     }
       where
         some_index : (f : VolumeFiles) → IsSome (index_home f) → (s : ℕ) × (index_home f ≡ Some s)
@@ -149,7 +150,7 @@ module _ (files left : VolumeFiles) (home : ℕ) (at : index_home files ≡ Some
             by_home None p q = absurd (true≢false (sym q))
             by_home (Some s) p q = (s, p)
 
-        had_server : (server : ℕ) (b : Bool) → server < max_servers → is_some (if b then None else left server Idx) ≡ true → is_some (if b then None else files server Idx) ≡ true
+        had_server : (server : ℕ) (b : Bool) → server < max_servers → is_some (if b then None else index_at left server) ≡ true → is_some (if b then None else index_at files server) ≡ true
         had_server server true h e = e
         had_server server false h e = (reduced.had_index server (h, e)).1
 
@@ -157,8 +158,8 @@ module _ (files left : VolumeFiles) (home : ℕ) (at : index_home files ≡ Some
         survives lost h = record {
           index = λ p.
               let now = some_index (lose_files left lost) (h.index (is_plain left home reduced_home)) in
-              let low = lowest-some (λ s. stands (lose_files left lost) s Idx) now.0 now.1 in
-              ap is_some (lowest-exists (λ s. stands (lose_files files lost) s Idx) now.0 low.1 (had_server now.0 (lost now.0) low.1 low.0.passes)).1;
+              let low = lowest-some (has_index (lose_files left lost)) now.0 now.1 in
+              ap is_some (lowest-exists (has_index (lose_files files lost)) now.0 low.1 (ap is_some (index_at-lost files lost now.0) ∙ had_server now.0 (lost now.0) low.1 (ap is_some (sym (index_at-lost left lost now.0)) ∙ low.0.passes))).1;
           shards = λ c. absurd (not_both files was_plain c);
         }
 
@@ -169,15 +170,15 @@ keeps_plain old new v home h at others reduced =
 
 -- ---- the files at the home, cut to what is kept
 
--- a server whose two files are as they were
-pub same_beside : (files left : VolumeFiles) (server : ℕ) → left server Dat ≡ files server Dat → left server Idx ≡ files server Idx
-    → FollowsRecords (bytes_at files server Dat) (bytes_at files server Idx) → IsTrue (has_super (bytes_at files server Dat)) → KeepsBeside files left server
+-- a server whose index and data file are as they were
+pub same_beside : (files left : VolumeFiles) (server : ℕ) → dat_at left server ≡ dat_at files server → index_at left server ≡ index_at files server
+    → FollowsRecords (dat_bytes files server) (index_bytes files server) → IsTrue (has_super (dat_bytes files server)) → KeepsBeside files left server
 same_beside files left server dat idx follows super =
-    let dats : bytes_at left server Dat ≡ bytes_at files server Dat = ap (λ (o : Option (List ℕ)). unwrap_or o []) dat in
-    let idxs : bytes_at left server Idx ≡ bytes_at files server Idx = ap (λ (o : Option (List ℕ)). unwrap_or o []) idx in
+    let dats : dat_bytes left server ≡ dat_bytes files server = ap (λ (o : Option (List ℕ)). unwrap_or o []) dat in
+    let idxs : index_bytes left server ≡ index_bytes files server = ap (λ (o : Option (List ℕ)). unwrap_or o []) idx in
     record {
       same = λ i. kept_records (dats i) (idxs i);
-      follows = subst (λ d. FollowsRecords d (bytes_at left server Idx)) (sym dats) (subst (FollowsRecords (bytes_at files server Dat)) (sym idxs) follows);
+      follows = subst (λ d. FollowsRecords d (index_bytes left server)) (sym dats) (subst (FollowsRecords (dat_bytes files server)) (sym idxs) follows);
       super = ap has_super dats ∙ super;
     }
 
@@ -234,105 +235,96 @@ module _ (dat idx : List ℕ) (follows : FollowsRecords dat idx) (super : IsTrue
 -- Each of the two files at the home is as it was or cut to the lengths to keep, and the other servers have what they had.
 record IsCutAtHome (files left : VolumeFiles) (home : ℕ) : Type 0 where
   pub lengths : ℕ × ℕ
-  pub keeps : KeepsLengths (bytes_at files home Dat) (bytes_at files home Idx) lengths
-  pub dat_file : IsSameOrCut lengths.0 (files home Dat) (left home Dat)
-  pub idx_file : IsSameOrCut lengths.1 (files home Idx) (left home Idx)
-  pub others : (server : ℕ) (kind : Kind) → server ≢ home → left server kind ≡ files server kind
+  pub keeps : KeepsLengths (dat_bytes files home) (index_bytes files home) lengths
+  pub dat_file : IsSameOrCut lengths.0 (dat_at files home) (dat_at left home)
+  pub idx_file : IsSameOrCut lengths.1 (index_at files home) (index_at left home)
+  pub others : (server : ℕ) → server ≢ home → (dat_at left server ≡ dat_at files server) × (index_at left server ≡ index_at files server)
 
 module _ (files left : VolumeFiles) (home : ℕ) (at : index_home files ≡ Some home) (cut : IsCutAtHome files left home) where
-  cut_at_home : FollowsRecords (bytes_at files home Dat) (bytes_at files home Idx) → IsTrue (has_super (bytes_at files home Dat)) → KeepsBeside files left home
+  cut_at_home : FollowsRecords (dat_bytes files home) (index_bytes files home) → IsTrue (has_super (dat_bytes files home)) → KeepsBeside files left home
   cut_at_home follows super =
-      let dat = bytes_at files home Dat in
-      let idx = bytes_at files home Idx in
+      let dat = dat_bytes files home in
+      let idx = index_bytes files home in
       let counts = cut.keeps.follows follows in
-      let dat_end : cut.lengths.0 ≡ end_of (kept_records (bytes_at files home Dat) (bytes_at files home Idx)) = cut.keeps.dat_length ∙ counts.1 in
-      let idx_end : cut.lengths.1 ≡ 16 * kept (bytes_at files home Dat) (bytes_at files home Idx) = cut.keeps.idx_length ∙ ap (λ n. 16 * n) counts.0 in
-      let dats = ⊎_elim (λ e. inl e) (λ e. inr (e ∙ ap (λ n. take n (bytes_at files home Dat)) dat_end)) (bytes_cut cut.lengths.0 (files home Dat) (left home Dat) cut.dat_file) in
-      let idxs = ⊎_elim (λ e. inl e) (λ e. inr (e ∙ ap (λ n. take n (bytes_at files home Idx)) idx_end)) (bytes_cut cut.lengths.1 (files home Idx) (left home Idx) cut.idx_file) in
-      let both = both_cut (bytes_at files home Dat) (bytes_at files home Idx) follows super (bytes_at left home Dat) (bytes_at left home Idx) dats idxs in
+      let dat_end : cut.lengths.0 ≡ end_of (kept_records (dat_bytes files home) (index_bytes files home)) = cut.keeps.dat_length ∙ counts.1 in
+      let idx_end : cut.lengths.1 ≡ 16 * kept (dat_bytes files home) (index_bytes files home) = cut.keeps.idx_length ∙ ap (λ n. 16 * n) counts.0 in
+      let dats = ⊎_elim (λ e. inl e) (λ e. inr (e ∙ ap (λ n. take n (dat_bytes files home)) dat_end)) (bytes_cut cut.lengths.0 (dat_at files home) (dat_at left home) cut.dat_file) in
+      let idxs = ⊎_elim (λ e. inl e) (λ e. inr (e ∙ ap (λ n. take n (index_bytes files home)) idx_end)) (bytes_cut cut.lengths.1 (index_at files home) (index_at left home) cut.idx_file) in
+      let both = both_cut (dat_bytes files home) (index_bytes files home) follows super (dat_bytes left home) (index_bytes left home) dats idxs in
       record { same = both.same; follows = both.follows; super = both.super }
 
   cut_reduced : IsReduced files left home
   cut_reduced =
       let has = home_has files home at in
       record {
-        has_index = (has.0, stands_cut cut.lengths.1 (files home Idx) (left home Idx) cut.idx_file ∙ has.1);
+        has_index = (has.0, stands_cut cut.lengths.1 (index_at files home) (index_at left home) cut.idx_file ∙ has.1);
         had_index = λ server left_has. elim (cases_eq server home) [
           | inl same ↦ subst (HasIndex files) (sym same) has
-          | inr other ↦ (left_has.0, ap is_some (sym (cut.others server Idx other)) ∙ left_has.1)
+          | inr other ↦ (left_has.0, ap is_some (sym (cut.others server other).1) ∙ left_has.1)
         ];
         keeps = λ server left_has. elim (cases_eq server home) [
-          | inl same ↦ subst (λ s. FollowsRecords (bytes_at files s Dat) (bytes_at files s Idx) → IsTrue (has_super (bytes_at files s Dat)) → KeepsBeside files left s) (sym same) cut_at_home
-          | inr other ↦ (λ follows super. same_beside files left server (cut.others server Dat other) (cut.others server Idx other) follows super)
+          | inl same ↦ subst (λ s. FollowsRecords (dat_bytes files s) (index_bytes files s) → IsTrue (has_super (dat_bytes files s)) → KeepsBeside files left s) (sym same) cut_at_home
+          | inr other ↦ (λ follows super. same_beside files left server (cut.others server other).0 (cut.others server other).1 follows super)
         ];
       }
 
-pub reduced_cut : (old new : Image) (v home : ℕ) (lengths : ℕ × ℕ) → index_home (files_of old v) ≡ Some home
-    → KeepsLengths (bytes_at (files_of old v) home Dat) (bytes_at (files_of old v) home Idx) lengths
-    → ((k : Place) → k ≢ place_of v home Dat false → k ≢ place_of v home Idx false → new k ≡ old k)
-    → IsSameOrCut lengths.0 (old (place_of v home Dat false)) (new (place_of v home Dat false)) → IsSameOrCut lengths.1 (old (place_of v home Idx false)) (new (place_of v home Idx false))
-    → IsReduced (files_of old v) (files_of new v) home
-reduced_cut old new v home lengths at keeps others dat_file idx_file = cut_reduced (files_of old v) (files_of new v) home at (record {
-  lengths = lengths;
-  keeps = keeps;
-  dat_file = dat_file;
-  idx_file = idx_file;
-  others = λ server kind other. others (place_of v server kind false) (λ e. other (ap (λ (q : Place). q.0) e)) (λ e. other (ap (λ (q : Place). q.0) e));
-})
+-- files of one volume of different kinds stand elsewhere
+pub kinds_apart : (v s t : ℕ) (a b : Kind) → v < max_volumes → IsKind a → IsKind b → a ≢ b → place_of v s a false ≢ place_of v t b false
+kinds_apart v s t a b h is fits other e =
+    let f : FileName = record { volume = v; kind = a; temp = false } in
+    let g : FileName = record { volume = v; kind = b; temp = false } in
+    let names : f ≡ g = same_name f g (record { volume = h; kind = is }) (record { volume = h; kind = fits }) (ap (λ (q : Place). q.1) e) in
+    other (ap (λ (n : FileName). n.kind) names)
 
-pub keeps_cut : (old new : Image) (v home : ℕ) (lengths : ℕ × ℕ) → v < max_volumes → index_home (files_of old v) ≡ Some home
-    → KeepsLengths (bytes_at (files_of old v) home Dat) (bytes_at (files_of old v) home Idx) lengths
-    → ((k : Place) → k ≢ place_of v home Dat false → k ≢ place_of v home Idx false → new k ≡ old k)
-    → IsSameOrCut lengths.0 (old (place_of v home Dat false)) (new (place_of v home Dat false)) → IsSameOrCut lengths.1 (old (place_of v home Idx false)) (new (place_of v home Idx false))
-    → KeepsMeaning old new
-keeps_cut old new v home lengths h at keeps others dat_file idx_file =
-    keeps_plain old new v home h at (λ k none. others k (none home Dat) (none home Idx)) (reduced_cut old new v home lengths at keeps others dat_file idx_file)
+cpx_no_dat : Cpx ≢ Dat
+cpx_no_dat e = cc
+
+cpx_no_idx : Cpx ≢ Idx
+cpx_no_idx e = cc
+
+module _ (old new : Image) (v home : ℕ) (lengths : ℕ × ℕ) (h : v < max_volumes) (at : index_home (files_of old v) ≡ Some home)
+    (unmade : stands (files_of old v) home Cpx ≡ false) (keeps : KeepsLengths (dat_bytes (files_of old v) home) (index_bytes (files_of old v) home) lengths)
+    (others : (k : Place) → k ≢ place_of v home Dat false → k ≢ place_of v home Idx false → new k ≡ old k)
+    (dat_file : IsSameOrCut lengths.0 (old (place_of v home Dat false)) (new (place_of v home Dat false))) (idx_file : IsSameOrCut lengths.1 (old (place_of v home Idx false)) (new (place_of v home Idx false))) where
+  pub still_unmade : stands (files_of new v) home Cpx ≡ false
+  still_unmade = ap is_some (others (place_of v home Cpx false) (kinds_apart v home home Cpx Dat h tt tt cpx_no_dat) (kinds_apart v home home Cpx Idx h tt tt cpx_no_idx)) ∙ unmade
+
+  named_cut : (n : ℕ) (a b c d : Option (List ℕ)) → a ≡ b → c ≡ d → IsSameOrCut n b d → IsSameOrCut n a c
+  named_cut n a b c d p q (inl same) = inl (q ∙ same ∙ sym p)
+  named_cut n a b c d p q (inr cut) = inr (q ∙ cut ∙ ap (option_map (take n)) (sym p))
+
+  pub reduced_cut : IsReduced (files_of old v) (files_of new v) home
+  reduced_cut = cut_reduced (files_of old v) (files_of new v) home at (record {
+    lengths = lengths;
+    keeps = keeps;
+    dat_file = named_cut lengths.0 _ _ _ _ (dat_named (files_of old v) home unmade) (dat_named (files_of new v) home still_unmade) dat_file;
+    idx_file = named_cut lengths.1 _ _ _ _ (index_named (files_of old v) home unmade) (index_named (files_of new v) home still_unmade) idx_file;
+    others = λ server other. (
+      same_dat_at (files_of old v) (files_of new v) server (elsewhere server Cpx other) (elsewhere server Cpd other) (elsewhere server Dat other),
+      same_index_at (files_of old v) (files_of new v) server (elsewhere server Cpx other) (elsewhere server Idx other),
+    );
+  })
+    where
+      elsewhere : (server : ℕ) (kind : Kind) → server ≢ home → new (place_of v server kind false) ≡ old (place_of v server kind false)
+      elsewhere server kind other = others (place_of v server kind false) (λ e. other (ap (λ (q : Place). q.0) e)) (λ e. other (ap (λ (q : Place). q.0) e))
+
+  pub keeps_cut : KeepsMeaning old new
+  keeps_cut = keeps_plain old new v home h at (λ k none. others k (none home Dat) (none home Idx)) reduced_cut
 
 -- what a stop leaves of a firm file while it is cut
 pub cut_left : (n : ℕ) (file : Option File) (found : Option (List ℕ)) → IsFirm file → IsCutOrNot n file found → IsSameOrCut n (disk.standing file) found
 cut_left n file found firm (inl left) = inl (firm_left file found firm left)
 cut_left n file found firm (inr left) = inr (firm_left (cut_to n file) found (cut_firm n file firm) left ∙ cut_standing n file)
 
--- ---- one file taken away
+-- ---- copies taken away, and what a vacuum made renamed
 
-module _ (old new : Image) (v home server : ℕ) (kind : Kind) (h : v < max_volumes) (is : IsKind kind) where
-  -- what stands at another place stays
-  elsewhere : (s : ℕ) (k : Kind) → IsKind k → ((k ≡ kind) → s ≡ server → ⊥) → ((p : Place) → p ≢ place_of v server kind false → new p ≡ old p) → new (place_of v s k false) ≡ old (place_of v s k false)
-  elsewhere s k fits other others = others (place_of v s k false) apart
-    where
-      apart : place_of v s k false ≢ place_of v server kind false
-      apart e =
-          let f : FileName = record { volume = v; kind = k; temp = false } in
-          let g : FileName = record { volume = v; kind = kind; temp = false } in
-          let names : f ≡ g = same_name f g (record { volume = h; kind = fits }) (record { volume = h; kind = is }) (ap (λ (q : Place). q.1) e) in
-          other (ap (λ (n : FileName). n.kind) names) (ap (λ (q : Place). q.0) e)
-
-  -- The index at the home isn't the file, and no data file beside an index is.
-  pub reduced_gone : index_home (files_of old v) ≡ Some home → (kind ≡ Idx → server ≢ home) → (kind ≡ Dat → HasIndex (files_of old v) server → ⊥)
-      → ((k : Place) → k ≢ place_of v server kind false → new k ≡ old k) → IsSameOrGone (old (place_of v server kind false)) (new (place_of v server kind false))
-      → IsReduced (files_of old v) (files_of new v) home
-  reduced_gone at no_home no_dat others gone =
-      let has = home_has (files_of old v) home at in
-      record {
-        has_index = (has.0, ap is_some (elsewhere home Idx tt (λ e same. no_home (sym e) (sym same)) others) ∙ has.1);
-        had_index = had;
-        keeps = λ s left_has.
-            same_beside (files_of old v) (files_of new v) s
-            (elsewhere s Dat tt (λ e same. no_dat (sym e) (subst (HasIndex (files_of old v)) same (had s left_has))) others)
-            (same_index s left_has);
-      }
-    where
-      same_index : (s : ℕ) → HasIndex (files_of new v) s → files_of new v s Idx ≡ files_of old v s Idx
-      same_index s left_has = ⊎_elim (λ same. same) (λ none. absurd (true≢false (sym left_has.1 ∙ ap is_some none))) (one_gone (place_of v server kind false) old new others gone (place_of v s Idx false))
-
-      had : (s : ℕ) → HasIndex (files_of new v) s → HasIndex (files_of old v) s
-      had s left_has = (left_has.0, ap is_some (sym (same_index s left_has)) ∙ left_has.1)
-
-  pub keeps_gone : index_home (files_of old v) ≡ Some home → (kind ≡ Idx → server ≢ home) → (kind ≡ Dat → HasIndex (files_of old v) server → ⊥)
-      → ((k : Place) → k ≢ place_of v server kind false → new k ≡ old k) → IsSameOrGone (old (place_of v server kind false)) (new (place_of v server kind false))
-      → KeepsMeaning old new
-  keeps_gone at no_home no_dat others gone =
-      keeps_plain old new v home h at (λ k none. others k (none server kind)) (reduced_gone at no_home no_dat others gone)
+-- where the home keeps its index, fewer copies are a reduced volume
+pub reduced_thinned : (files left : VolumeFiles) (home : ℕ) → IsThinned files left → HasIndex left home → IsReduced files left home
+reduced_thinned files left home thinned has = record {
+  has_index = has;
+  had_index = thinned_stood files left thinned;
+  keeps = λ s left_has. same_beside files left s (thinned.beside s left_has) (thinned_same files left thinned s left_has.1);
+}
 
 -- ---- a volume with no mode
 
@@ -363,9 +355,9 @@ some_passes test a (suc n) i h k e = elim (cases_eq a i) [
 pub absent_by : (files : VolumeFiles) → mode_of files ≡ None → IsAbsent files
 unfolding mode_of standing
 absent_by files none =
-    let parts = none_by (index_home files) (nat_le data_count (length (standing files))) (nat_lt 0 (length (standing files))) (has_long_dat files) none in
+    let parts = none_by (index_home files) (nat_le (data_count (ratio_of files)) (length (standing files))) (nat_lt 0 (length (standing files))) (has_long_dat files) none in
     record {
-      no_index = lowest-none (λ s. stands files s Idx) parts.0;
+      no_index = lowest-none (has_index files) parts.0;
       no_shard = λ server i h k. not_passing (stands files server (Shard i)) (λ e. true≢false (sym (shard_stands server i h k e) ∙ parts.1));
       short_dat = λ server h. ltb-false 8 (length (bytes_at files server Dat)) (lowest-none (λ s. nat_lt 8 (length (bytes_at files s Dat))) (no_lowest (lowest (λ s. nat_lt 8 (length (bytes_at files s Dat)))) parts.2) server h);
     }
@@ -378,15 +370,15 @@ absent_by files none =
     no_lowest None e = refl
     no_lowest (Some s) e = absurd (true≢false e)
 
-    shard_stands : (server i : ℕ) → server < max_servers → i < shard_count → stands files server (Shard i) ≡ true → nat_lt 0 (length (standing files)) ≡ true
+    shard_stands : (server i : ℕ) → server < max_servers → i < max_shards → stands files server (Shard i) ≡ true → nat_lt 0 (length (standing files)) ≡ true
     shard_stands server i h k e =
         let found = lowest-exists (λ s. stands files s (Shard i)) server h e in
-        lt-ltb 0 (length (standing files)) (some_passes (λ i. is_some (shard_home files i)) 0 shard_count i (omega arith) (omega (arith, k)) (ap is_some found.1))
+        lt-ltb 0 (length (standing files)) (some_passes (λ i. is_some (shard_home files i)) 0 max_shards i (omega arith) (omega (arith, k)) (ap is_some found.1))
 
 -- nor has what is left of it
 absent_left : (files left : VolumeFiles) → ((server : ℕ) (kind : Kind) → IsSameOrGone (files server kind) (left server kind)) → IsAbsent files → IsAbsent left
 absent_left files left each absent = record {
-  no_index = λ server h. gone server Idx (absent.no_index server h);
+  no_index = λ server h. no_index server h (stands files server Cpx) refl;
   no_shard = λ server i h k. gone server (Shard i) (absent.no_shard server i h k);
   short_dat = λ server h. short server (absent.short_dat server h) (each server Dat);
 }
@@ -394,9 +386,21 @@ absent_left files left each absent = record {
     gone : (server : ℕ) (kind : Kind) → stands files server kind ≡ false → stands left server kind ≡ false
     gone server kind e = ⊎_elim (λ same. ap is_some same ∙ e) (λ none. ap is_some none) (each server kind)
 
+    no_index : (server : ℕ) → server < max_servers → (b : Bool) → stands files server Cpx ≡ b → has_index left server ≡ false
+    no_index server h true e = absurd (true≢false (sym (made_has files server e) ∙ absent.no_index server h))
+    no_index server h false e =
+        ap is_some (index_named left server (gone server Cpx e)) ∙ gone server Idx (ap is_some (sym (index_named files server e)) ∙ absent.no_index server h)
+
     short : (server : ℕ) → length (bytes_at files server Dat) ≤ 8 → IsSameOrGone (files server Dat) (left server Dat) → length (bytes_at left server Dat) ≤ 8
     short server h (inl same) = subst (λ (o : Option (List ℕ)). length (unwrap_or o []) ≤ 8) (sym same) h
     short server h (inr none) = subst (λ (o : Option (List ℕ)). length (unwrap_or o []) ≤ 8) (sym none) (omega arith)
+
+lost_or_same : (files : VolumeFiles) (lost : ℕ → Bool) (server : ℕ) (kind : Kind) → IsSameOrGone (files server kind) (lose_files files lost server kind)
+lost_or_same files lost server kind = by_lost (lost server)
+  where
+    by_lost : (b : Bool) → IsSameOrGone (files server kind) (if b then None else files server kind)
+    by_lost true = inr refl
+    by_lost false = inl refl
 
 module _ (files left : VolumeFiles) (each : (server : ℕ) (kind : Kind) → IsSameOrGone (files server kind) (left server kind)) (none : mode_of files ≡ None) where
   was_absent : IsAbsent files
@@ -416,8 +420,7 @@ module _ (files left : VolumeFiles) (each : (server : ℕ) (kind : Kind) → IsS
   absent_copies = record {
     survives = λ lost h. record { index = λ p. absurd (none_some (sym none ∙ p)); shards = λ c. absurd (none_some (sym none ∙ c)) };
     leaves = λ lost h.
-        absent_means (lose_files left lost) (absent_left left (lose_files left lost) (lose_thinned left lost).each stays_absent)
-        ∙ sym (absent_means (lose_files files lost) (absent_left files (lose_files files lost) (lose_thinned files lost).each was_absent));
+        inr (absent_means (lose_files left lost) (absent_left left (lose_files left lost) (lost_or_same left lost) stays_absent) ∙ sym (absent_means files was_absent));
   }
     where
       none_some : {m : Mode} → None ≡ Some m → ⊥
@@ -428,9 +431,3 @@ pub keeps_absent : (old new : Image) (v : ℕ) → v < max_volumes → mode_of (
     → ((server : ℕ) (kind : Kind) → (files_of new v server kind ≡ files_of old v server kind) ⊎ (files_of new v server kind ≡ None)) → KeepsMeaning old new
 keeps_absent old new v h none others each =
     one_volume old new v h others (λ sound. (absent_stays_sound (files_of old v) (files_of new v) each none, absent_copies (files_of old v) (files_of new v) each none))
-
--- one file of it
-pub keeps_absent_gone : (old new : Image) (v server : ℕ) (kind : Kind) → v < max_volumes → mode_of (files_of old v) ≡ None
-    → ((k : Place) → k ≢ place_of v server kind false → new k ≡ old k) → IsSameOrGone (old (place_of v server kind false)) (new (place_of v server kind false)) → KeepsMeaning old new
-keeps_absent_gone old new v server kind h none others gone =
-    keeps_absent old new v h none (λ k other. others k (other server kind)) (λ s k. one_gone (place_of v server kind false) old new others gone (place_of v s k false))

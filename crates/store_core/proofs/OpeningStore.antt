@@ -7,12 +7,12 @@ use Rattle.world_model.specs.declared.types.Mode.TheVariants as mode
 use Rattle.file_names.specs.declared.Kind.TheVariants.{Dat, Idx}
 use Rattle.volume_forms.specs.Forms.{has_super}
 use Rattle.needle_record.specs.Records.{Placed, end_of, index_of}
-use Rattle.image_meaning.specs.Files.{VolumeFiles, contents, files_of, temps_of, bytes_at}
+use Rattle.image_meaning.specs.Files.{VolumeFiles, contents, files_of, temps_of, bytes_at, dat_bytes, index_bytes}
 use Rattle.image_meaning.specs.Plain.{kept_at, index_home, IsExact}
 use Rattle.image_meaning.specs.PlainLaws.{IsAlone, cut_exact, cut_super, exact_kept_records, exact_follows}
 use Rattle.image_meaning.specs.Laws.PlainLoss.{plain_home}
 use Rattle.image_meaning.specs.Meaning.{mode_of, max_volumes}
-use Rattle.image_meaning.specs.Sound.{IsSoundVolume, IsSound}
+use Rattle.image_meaning.specs.Sound.{HasOneRatio, IsSoundVolume, IsSound}
 use Rattle.image_meaning.specs.Ends.{HasNoFiles}
 use Rattle.dat_volume.specs.declared.volume.DatVolume.{DatVolume}
 use Rattle.dat_volume.specs.Places.{dat_in, idx_in}
@@ -59,8 +59,8 @@ holds_alone d v files temps dat idx ps number only exact super none loaded =
 holds_left : (d : DatVolume) (v : ℕ) (old new temps : VolumeFiles) → index_home old ≡ Some d.server → IsSoundVolume old → HasNoFiles temps → IsLeftPlain old new d.server → d.volume ≡ v
     → IsLoaded d (bytes_at new d.server Dat) (bytes_at new d.server Idx) → HoldsPlain d v new temps
 holds_left d v old new temps at sound none left number loaded =
-    let dat = bytes_at old d.server Dat in
-    let idx = bytes_at old d.server Idx in
+    let dat = dat_bytes old d.server in
+    let idx = index_bytes old d.server in
     let long = left_long old new temps d.server at sound none left in
     holds_alone d v new temps _ _ (kept_at old d.server) number (left_only old new temps d.server at sound none left) (cut_exact dat idx long) (cut_super dat idx long left.keeps.super) none loaded
 
@@ -89,7 +89,9 @@ module _ (tells : Bool) (told : IsTrue tells) (old new : Files) (servers : ℕ) 
 
   fits_slot : (s : Option Slot) (v : ℕ) → v < max_volumes → IsSlotOf tells new found.plain.items found.lost.items v s → FitsVolume s v (files_of (contents new) v) (temps_of (contents new) v)
   fits_slot None v h is = (fits_none v h is, (recovered.1 v h).no_temps)
-  fits_slot (Some slot.Lost) v h is = ((recovered.1 v h).same_mode ∙ ((finds.lost v).0 is).1, (recovered.1 v h).no_temps)
+  fits_slot (Some slot.Lost) v h is =
+      let was = ((finds.lost v).0 is).1 in
+      ((recovered.1 v h).same_mode ∙ was, (recovered.1 v h).no_temps, subst HasOneRatio (sym ((recovered.1 v h).lost was)) ((sound v h).info_rule.lost was))
   fits_slot (Some (slot.Plain d sealed)) v h is = fits_plain d sealed v h is
 
   -- one without a number has no slot

@@ -1,25 +1,24 @@
 -- The replies of a run.
-use Rattle.std.specs.Prelude.{◌≡◌, ◌≢◌, ◌⊎◌, ℕ, ◌+◌, ◌-◌, ◌*◌, ◌^◌, ◌<◌, ◌≤◌, ◌==◌, if◌then◌else◌, Bool, true, false, IsTrue, List, [], ◌++◌, length, take, count_by, All, slice_get, Option, Some, None, MatchBool}
+use Rattle.std.specs.Prelude.{◌≡◌, ◌≢◌, ◌⊎◌, ℕ, ◌+◌, ◌-◌, ◌*◌, ◌^◌, ◌<◌, ◌≤◌, ◌==◌, if◌then◌else◌, Bool, true, false, IsTrue, List, [], ◌++◌, length, take, count_by, All, slice_get, Some, None, MatchBool}
 use Rattle.std.specs.List.{last_or}
-use Rattle.file_names.specs.declared.Kind.TheVariants.{Shard}
-use Rattle.file_names.specs.Names.{shard_count}
 use Rattle.world_model.specs.declared.types.Command.{Command}
-use Rattle.world_model.specs.declared.types.Command.TheVariants.{Encode, Rebuild, Balance, Decode}
 use Rattle.world_model.specs.declared.types.Mode.TheVariants as mode
 use Rattle.world_model.specs.declared.types.Line.TheVariants as line
 use Rattle.world_model.specs.declared.types.Reply.{Reply}
 use Rattle.world_model.specs.declared.types.Reply.TheVariants as reply
 use Rattle.world_model.specs.World.{World, Volume}
 use Rattle.world_model.specs.Moves.{Reading, over_long, ungrammatical, grammatical}
+use Rattle.world_model.specs.Jobs.{accepted_on, running_steps, with_ended_jobs, used_of}
 use Rattle.world_model.specs.Runs.{IsRun}
 use Rattle.script_text.specs.Lines.{script_lines, whole_lines}
-use Rattle.image_meaning.specs.Files.{VolumeFiles, files_of}
+use Rattle.image_meaning.specs.Files.{files_of}
 use Rattle.image_meaning.specs.Meaning.{meaning, mode_of, max_volumes}
-use Rattle.image_meaning.specs.Sound.{Stands, IsCoded}
-use Rattle.image_meaning.specs.Ends.{IsTidy, IsWhole, IsEven, IsNear}
+use Rattle.image_meaning.specs.Sound.{IsCoded}
+use Rattle.image_meaning.specs.Ends.{IsTidy, IsWhole, IsNear}
+use Rattle.image_meaning.specs.Shards.{makes_shards, AfterLast, KeepsCopies}
 use Rattle.weed_shell.specs.declared.status.Status.{Status}
 use Rattle.weed_shell.specs.declared.status.Status.TheVariants as status
-use Rattle.weed_shell.specs.Observed.{Start, Run, opening_image, ending_image, first_world, lines_of, world_at, text_with, is_fault_of, is_damaged, accepted_on, running_steps, with_ended_jobs, used_of}
+use Rattle.weed_shell.specs.Observed.{Start, Run, opening_image, ending_image, first_world, lines_of, world_at, text_with, is_fault_of, is_damaged}
 
 -- ---- what was said
 
@@ -116,28 +115,10 @@ pub record AnsweredWhole (run : Run) (replies : List Reply) : Type 0 where
 
 -- ---- coded volumes
 
-abbrev pub makes_shards : Command → Bool
-makes_shards Encode = true
-makes_shards Rebuild = true
-makes_shards Balance = false
-makes_shards Decode = false
-
--- where the last command left the shards
-abbrev pub AfterLast : Option Command → VolumeFiles → ℕ → Type 0
-AfterLast None files servers = Unit {0}
-AfterLast (Some Encode) files servers = IsWhole files × IsEven files servers
-AfterLast (Some Rebuild) files servers = IsWhole files × IsEven files servers
-AfterLast (Some Balance) files servers = IsEven files servers
-AfterLast (Some Decode) files servers = Unit {0}
-
--- each shard that there was is there
-abbrev pub KeepsShards : VolumeFiles → VolumeFiles → Type 0
-KeepsShards old new = (server i : ℕ) → i < shard_count → Stands old server (Shard i) → (s : ℕ) × Stands new s (Shard i)
-
 pub record ShardsKept (run : Run) (replies : List Reply) (v : ℕ) : Type 0 where
   pub last : AfterLast (last_or None (accepted_on v (lines_of run.start) replies)) (files_of (ending_image run) v) run.start.servers
   pub kept : MatchBool (0 == count_by makes_shards (accepted_on v (lines_of run.start) replies))
-      (KeepsShards (files_of (opening_image run.start) v) (files_of (ending_image run) v))
+      (KeepsCopies (files_of (opening_image run.start) v) (files_of (ending_image run) v))
       (IsWhole (files_of (ending_image run) v))
 
 -- ---- jobs

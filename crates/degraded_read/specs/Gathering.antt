@@ -1,0 +1,79 @@
+-- Shards that were read one after the other, the lowest first, past those that failed.
+use Rattle.std.specs.Prelude.{◌≡◌, ℕ, ◌+◌, ◌-◌, ◌*◌, ◌^◌, ◌<◌, ◌≤◌, min, nat_le, Bool, true, false, not, if◌then◌else◌, is_some, IsSome, List, [], length, filter, take, slice_index, slice_index_or, Option, Some, None, IfSome}
+use Rattle.std.specs.Option.{option_map_or}
+use Rattle.std.specs.List.{AllByRecursion, range_with_len}
+use Rattle.site_model.specs.Disk.{Files, bytes_of}
+use Rattle.site_model.specs.Counts.{Counts, Rose}
+use Rattle.file_names.specs.declared.Kind.TheVariants.{Shard}
+use Rattle.file_names.specs.Names.{name_bytes}
+use Rattle.rs_code.specs.Combination.{AreDistinct}
+use Rattle.shard_table.specs.Table.{Row, place_in}
+
+abbrev pub shard_name : ℕ → ℕ → List ℕ
+shard_name volume i = name_bytes (record { volume = volume; kind = Shard i; temp = false })
+
+-- the names of the volume's shards
+pub record AreNames (volume : ℕ) (names : List (List ℕ)) : Type 0 where
+  pub count : length names ≡ 16
+  pub each : (i : ℕ) → i < 16 → slice_index_or names i [] ≡ shard_name volume i
+
+-- the bytes of a shard at its place
+abbrev pub shard_at : Files → ℕ → Row → ℕ → List ℕ
+shard_at files volume row i = option_map_or (λ s. bytes_of (files (s, shard_name volume i))) (place_in row i) []
+
+abbrev pub OnServers : ℕ → Row → Type 0
+OnServers servers row = (i s : ℕ) → place_in row i ≡ Some s → s < servers
+
+-- each shard in the row reaches so far
+abbrev pub HoldRange : Files → ℕ → Row → ℕ → Type 0
+HoldRange files volume row end = (i s : ℕ) → place_in row i ≡ Some s → end ≤ length (bytes_of (files (s, shard_name volume i)))
+
+-- ---- counts of faults
+
+abbrev pub rose : ℕ → ℕ → Bool
+rose before now = nat_le (min (before + 1) (2 ^ 64 - 1)) now
+
+abbrev pub stands_in : Row → ℕ → Bool
+stands_in row i = is_some (place_in row i)
+
+-- it stands on a server whose count of faults didn't rise
+abbrev pub is_reliable : Row → Counts → Counts → ℕ → Bool
+is_reliable row old now i = option_map_or (λ s. not (rose (old.faults s) (now.faults s))) (place_in row i) false
+
+-- so many of the first n shards stand on such servers
+abbrev pub reliable : Row → Counts → Counts → ℕ → ℕ
+reliable row old now n = length (filter (is_reliable row old now) (range_with_len 0 n))
+
+-- the faults of the server rose, where one is told
+abbrev pub IsBlamed : Option ℕ → Counts → Counts → Type 0
+IsBlamed failed old now = IfSome failed (λ s. Rose (old.faults s) (now.faults s))
+
+-- those of the first n shards that stand
+abbrev pub standing_in : Row → ℕ → List ℕ
+standing_in row n = filter (stands_in row) (range_with_len 0 n)
+
+-- the reads that a shard takes
+abbrev pub reads_of : Row → ℕ → ℕ
+reads_of row i = if stands_in row i then 1 else 0
+
+-- ---- what was read
+
+-- Of the first shards of a row these were read, from a place on, one piece behind the other, since the counts were `old`.
+pub record HasGathered (tells : Type 0) (files : Files) (volume : ℕ) (row : Row) (at size : ℕ) (old now : Counts) (shard : ℕ) (have : List ℕ) (failed : Option ℕ) (room : List ℕ) : Type 0 where
+  pub below : AllByRecursion (λ j. j < shard) have
+  pub distinct : AreDistinct have
+  pub placed : AllByRecursion (λ j. stands_in row j ≡ true) have
+  pub pieces : tells → (n : ℕ) → n < length have → (i : ℕ) → i < size → slice_index room (n * size + i) ≡ slice_index (shard_at files volume row (slice_index have n)) (at + i)
+  pub no_more : reliable row old now shard ≤ length have
+  pub all_read : failed ≡ None → have ≡ filter (stands_in row) (range_with_len 0 shard)
+
+-- Of n shards k were read, the lowest ones where none failed, or all were tried that stand and fewer than k of them stand on servers whose count
+-- didn't rise.
+pub record HasEnough (k n : ℕ) (tells : Type 0) (files : Files) (volume : ℕ) (row : Row) (at size : ℕ) (old now : Counts) (have : List ℕ) (failed : Option ℕ) (room : List ℕ) : Type 0 where
+  pub below : AllByRecursion (λ j. j < n) have
+  pub distinct : AreDistinct have
+  pub placed : AllByRecursion (λ j. stands_in row j ≡ true) have
+  pub pieces : tells → (p : ℕ) → p < length have → (i : ℕ) → i < size → slice_index room (p * size + i) ≡ slice_index (shard_at files volume row (slice_index have p)) (at + i)
+  pub lowest : failed ≡ None → have ≡ take (length have) (standing_in row n)
+  pub few : length have < k → reliable row old now n < k
+  pub some_failed : length have < k → k ≤ length (standing_in row n) → IsSome failed

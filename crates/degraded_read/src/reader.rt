@@ -1,0 +1,109 @@
+// Reads of a volume's shards, with the names and the room that they need.
+ghost use Rattle.std.specs.Prelude.{◌≡◌, ◌<◌, ◌≤◌, ◌+◌, IsTrue, IfErr, IfOk, OnOk, length, map};
+ghost use Rattle.std.specs.String.{string_bytes};
+ghost use Rattle.site_model.specs.Counts.{IsLater, TakesCalls};
+ghost use Rattle.stripe_layout.specs.Stripes.{shard_length, shards_in_all};
+ghost use Rattle.shard_table.specs.Table.{row_of};
+ghost use Rattle.degraded_read.specs.Gathering.{AreNames};
+ghost use Rattle.degraded_read.specs.Reading.{BlamesFew, GivesPart, HasEnoughShards, HasPlaces, shards_standing};
+
+use crate::reading::read_part;
+use file_names::{FileName, Kind, spell};
+use shard_table::ShardTable;
+use site_model::{DeviceFault, Site};
+use std::alloc::{AllocError, Global};
+use stripe_layout::Info;
+
+/// The most bytes of a part of a shard that are read at once.
+pub const PART: usize = 65536;
+
+/// Reads parts of one volume's shards. It keeps the names of their files and the room for as many parts as the
+/// widest ratio has data shards.
+#[derive(Drop)]
+pub struct Reader {
+    volume: u32,
+    names: Vec<String>,
+    room: Vec<u8>,
+    ghost names_are: { AreNames volume (map string_bytes names.items) },
+    ghost room_is: { length room.items ≡ 786432 },
+}
+
+/// The names of the volume's shards.
+fn names_of(alloc: Global, volume: u32) -> Result<Vec<String>, AllocError>
+    ensures { IfOk result (λ names. AreNames volume (map string_bytes names.items)) }
+{
+    let mut names = Vec::new(alloc);
+    for shard in 0..16u8 {
+        let name = FileName {
+            volume,
+            kind: Kind::Shard(shard),
+            temp: false,
+        };
+        names.push(spell(alloc, &name)?)?;
+    }
+    Ok(names)
+}
+
+fn zeros(alloc: Global, size: usize) -> Result<Vec<u8>, AllocError>
+    ensures { IfOk result (λ v. length v.items ≡ size) }
+{
+    vec![in alloc; 0; size]
+}
+
+impl Reader {
+    /// A reader of the volume.
+    pub fn new(alloc: Global, volume: u32) -> Result<Reader, AllocError>
+        ensures { IfOk result (λ reader. reader.volume ≡ volume) }
+    {
+        let names = names_of(alloc, volume)?;
+        let room = zeros(alloc, 786432)?;
+        Ok(Reader {
+            volume,
+            names,
+            room,
+        })
+    }
+
+    /// Reads a part of a shard, which may be missing itself.
+    pub fn read_shard<T: Site>(
+        &mut self,
+        site: &mut T,
+        table: &ShardTable,
+        info: &Info,
+        shard: u8,
+        at: u64,
+        out: &mut [u8],
+    ) -> Result<(), DeviceFault>
+        requires servers { table.now.servers ≡ T.servers site.old }
+        requires placed { IsTrue T.tells → HasPlaces (T.disk site.old).files self.old.volume
+            info.now (row_of table.now self.old.volume) }
+        requires enough { HasEnoughShards info.now (row_of table.now self.old.volume) }
+        requires shard { shard < shards_in_all info.now.geometry }
+        requires range { at + length out.old ≤ shard_length info.now.geometry info.now.dat_size }
+        requires part { length out.old ≤ 65536 }
+        ensures part { OnOk result (IsTrue T.tells
+            → GivesPart (T.disk site.old).files self.old.volume info.now shard at out.new) }
+        ensures cause { IfErr result (λ fault. BlamesFew info.now (row_of table.now self.old.volume)
+            (T.counts site.old) (T.counts site.new) fault.server) }
+        ensures same { IsTrue T.tells → T.disk site.new ≡ T.disk site.old }
+        ensures calls { TakesCalls (shards_standing info.now (row_of table.now self.old.volume))
+            (length out.old) (T.counts site.old) (T.counts site.new) }
+        ensures later { IsLater (T.counts site.old) (T.counts site.new) }
+        ensures servers { T.servers site.new ≡ T.servers site.old }
+        ensures volume { self.new.volume ≡ self.old.volume }
+    {
+        let mut failed = None;
+        read_part(
+            site,
+            self.volume,
+            self.names.as_slice(),
+            table,
+            info,
+            shard,
+            at,
+            &mut failed,
+            self.room.as_mut_slice(),
+            out,
+        )
+    }
+}

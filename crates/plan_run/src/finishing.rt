@@ -1,0 +1,106 @@
+// The calls of a site by which a file of a plan is finished or goes.
+ghost use Rattle.std.specs.Prelude.{◌≡◌, IsTrue, OnOk};
+ghost use Rattle.site_model.specs.Counts.{TakesCalls};
+ghost use Rattle.plan_steps.specs.Progressing.{running};
+ghost use Rattle.plan_run.specs.Faults.{AtFile, IsBlamed, IsBlamedForWriting};
+ghost use Rattle.plan_run.specs.Finishing.{IsNamedFile, TempStands, Keeps, Synced};
+ghost use Rattle.plan_run.specs.Finishing.{Registers, Registered, Clears, Cleared};
+
+use plan_steps::{Plan, Progress, Stage};
+use site_model::{DeviceFault, Site};
+use whole_file::clear;
+
+/// Makes all of a temporary file firm.
+pub fn sync_file<T: Site>(
+    site: &mut T,
+    plan: &Plan,
+    progress: &mut Progress,
+    at: usize,
+    temp: &str,
+    name: &str,
+) -> Result<(), DeviceFault>
+    requires file { IsNamedFile plan.now.volume (T.servers site.old)
+        progress.old.files.items at temp.now name.now }
+    requires stands { IsTrue T.tells → TempStands (running plan.now progress.old) at (T.disk site.old).files }
+    ensures keeps { IsTrue T.tells
+        → Keeps (running plan.now progress.old) at (T.disk site.old) (T.disk site.new) }
+    ensures fits { OnOk result (IsTrue T.tells
+        → Synced (running plan.now progress.old) at
+        (T.disk site.old) (T.disk site.new) (running plan.now progress.new)) }
+    ensures calls { TakesCalls 1 0 (T.counts site.old) (T.counts site.new) }
+    ensures cause { AtFile progress.old.files.items at
+        (λ server. IsBlamedForWriting server result (T.counts site.old) (T.counts site.new)) }
+    ensures servers { T.servers site.new ≡ T.servers site.old }
+{
+    let server = progress.files[at].server;
+    match site.sync(server, temp) {
+        Ok(()) => {
+            progress.files[at].stage = Stage::Synced;
+            Ok(())
+        }
+        Err(_) => Err(DeviceFault { server }),
+    }
+}
+
+/// Gives a temporary file, which is firm, its final name.
+pub fn register_file<T: Site>(
+    site: &mut T,
+    plan: &Plan,
+    progress: &mut Progress,
+    at: usize,
+    temp: &str,
+    name: &str,
+) -> Result<(), DeviceFault>
+    requires file { IsNamedFile plan.now.volume (T.servers site.old)
+        progress.old.files.items at temp.now name.now }
+    requires stands { IsTrue T.tells → TempStands (running plan.now progress.old) at (T.disk site.old).files }
+    ensures keeps { IsTrue T.tells
+        → Registers (running plan.now progress.old) at (T.disk site.old) (T.disk site.new) }
+    ensures fits { OnOk result (IsTrue T.tells
+        → Registered (running plan.now progress.old) at
+        (T.disk site.old) (T.disk site.new) (running plan.now progress.new)) }
+    ensures calls { TakesCalls 1 0 (T.counts site.old) (T.counts site.new) }
+    ensures cause { AtFile progress.old.files.items at
+        (λ server. IsBlamedForWriting server result (T.counts site.old) (T.counts site.new)) }
+    ensures servers { T.servers site.new ≡ T.servers site.old }
+{
+    let server = progress.files[at].server;
+    match site.rename(server, temp, name) {
+        Ok(()) => {
+            progress.files[at].stage = Stage::Registered;
+            Ok(())
+        }
+        Err(_) => Err(DeviceFault { server }),
+    }
+}
+
+/// Removes a file, if it stands.
+pub fn clear_file<T: Site>(
+    site: &mut T,
+    plan: &Plan,
+    progress: &mut Progress,
+    at: usize,
+    temp: &str,
+    name: &str,
+) -> Result<(), DeviceFault>
+    requires file { IsNamedFile plan.now.volume (T.servers site.old)
+        progress.old.files.items at temp.now name.now }
+    ensures keeps { IsTrue T.tells
+        → Clears (running plan.now progress.old) at (T.disk site.old) (T.disk site.new) }
+    ensures fits { OnOk result (IsTrue T.tells
+        → Cleared (running plan.now progress.old) at
+        (T.disk site.old) (T.disk site.new) (running plan.now progress.new)) }
+    ensures calls { TakesCalls 2 0 (T.counts site.old) (T.counts site.new) }
+    ensures cause { AtFile progress.old.files.items at
+        (λ server. IsBlamed server result (T.counts site.old) (T.counts site.new)) }
+    ensures servers { T.servers site.new ≡ T.servers site.old }
+{
+    let server = progress.files[at].server;
+    match clear(site, server, name) {
+        Ok(()) => {
+            progress.files[at].stage = Stage::Gone;
+            Ok(())
+        }
+        Err(_) => Err(DeviceFault { server }),
+    }
+}

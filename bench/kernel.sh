@@ -1,5 +1,7 @@
 #!/bin/sh
-# The kernels' speed against ISA-L's, as medians of the ratios within rounds: bench/kernel.sh [ROUNDS] [FOLDER]
+# The kernels' speed in each ratio against ISA-L's, as medians of the ratios within rounds:
+# bench/kernel.sh [ROUNDS] [FOLDER]
+# encode_piece, restore_pieces of as many lost shards as there are parity shards, and restore_piece of one.
 # ISA-L is timed on pieces that stand as the kernels' do, one after the other, and on aligned pieces apart.
 # Needs gcc, python3, libisal-dev and rt. CORE names the processor that is used. FOLDER keeps what is built.
 # With PRIORITY=50, as root, no other program of the machine runs there meanwhile.
@@ -35,9 +37,13 @@ def speed(what, name):
 def ratio(what, name, theirs):
     return statistics.median(rates[n, what, name] / rates[n, "isal", theirs] for n in rounds)
 
-for name in ("encode", "restore"):
-    print(f"{name} isal: {speed('isal', name):.0f} MB/s, on pieces apart {speed('isal', name + '_apart'):.0f} MB/s")
+for shards in ("3+2", "6+3", "10+4", "12+4"):
+    for call in ("encode", "restore"):
+        name, theirs = f"{call}_{shards}", f"{call}_apart_{shards}"
+        print(f"{name} isal: {speed('isal', name):.0f} MB/s, on pieces apart {speed('isal', theirs):.0f} MB/s")
+        for what in ("x86-64-v2", "x86-64-v3"):
+            same, apart = ratio(what, name, name), ratio(what, name, theirs)
+            print(f"{name} {what}: {speed(what, name):.0f} MB/s, {same:.2f} of ISA-L on the same pieces, {apart:.2f} of it on pieces apart")
     for what in ("x86-64-v2", "x86-64-v3"):
-        same, apart = ratio(what, name, name), ratio(what, name, name + "_apart")
-        print(f"{name} {what}: {speed(what, name):.0f} MB/s, {same:.2f} of ISA-L on the same pieces, {apart:.2f} of it on pieces apart")
+        print(f"restore_one_{shards} {what}: {speed(what, f'restore_one_{shards}'):.0f} MB/s")
 PY

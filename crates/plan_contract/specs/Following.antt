@@ -1,39 +1,58 @@
--- What it is that a plan has come so far, by shares, as the store has it; and what of the store's contract that gives.
-use Rattle.std.proofs.Common.{◌≡◌, ℕ, false, List, Some, subst}
-use Rattle.site_model.specs.Disk.{Files, IsFirm}
+-- What the store knows of a plan that runs, had from what plans say of themselves.
+use Rattle.std.proofs.Common.{◌≡◌, ◌≢◌, ℕ, ◌<◌, List, ◌++◌, Some, refl, sym, ◌∙◌, ap, subst}
+use Rattle.site_model.specs.Disk.{Disk}
+use Rattle.site_model.specs.Leaves.{Leaves}
+use Rattle.site_model.specs.Touches.{Touches}
 use Rattle.world_model.specs.World.{Volume}
-use Rattle.file_names.specs.declared.Kind.{Kind}
-use Rattle.file_names.specs.Names.{IsKind}
+use Rattle.world_model.specs.declared.types.Command.TheVariants.{Decode}
+use Rattle.needle_record.specs.Records.{Placed, records}
+use Rattle.shard_table.specs.Table.{Row}
+use Rattle.image_meaning.specs.Files.{files_of}
+use Rattle.image_meaning.specs.Coded.{dat_of}
 use Rattle.image_meaning.specs.Meaning.{volume_of}
-use Rattle.image_meaning.specs.Share.{Share, share_of, finals}
 use Rattle.image_meaning.specs.Near.{IsUnderway}
+use Rattle.image_meaning.specs.Share.{Share, share_of, finals, IsFirmShare, IsOfVolume}
+use Rattle.image_meaning.specs.Shards.{KeepsCopies}
 use Rattle.plan_steps.specs.declared.plan.Plan.{Plan}
-use Rattle.plan_steps.specs.declared.plan.FileState.{FileState}
-use Rattle.plan_steps.specs.Kept.{Forms, IsKept}
-use Rattle.plan_steps.specs.Progressing.{FitsProgress}
-use Rattle.plan_contract.specs.Held.{kept_underway}
+use Rattle.plan_steps.specs.Planned.{deletions}
+use Rattle.plan_steps.specs.Legal.{FitsPlaces}
+use Rattle.plan_steps.specs.Runs.{StepKeeps}
+use Rattle.plan_steps.specs.Progressing.{Running, Follows}
+use Rattle.plan_steps.specs.ProgressLaws.{progress_firm}
+use Rattle.plan_steps.specs.UnderwayLaws.{progress_underway, step_underway}
+use Rattle.store_jobs.specs.Plan as store
 
-pub record Running : Type 0 where
-  pub plan : Plan
-  pub states : List FileState
-  pub place : ℕ
+-- as much of a plan as the store reads
+abbrev pub told : Plan → store.Plan
+told plan = record { command = plan.command; volume = plan.volume; home = plan.home; info = plan.info; deleted = plan.deleted.items }
 
--- Some site with this share fits the plan and its progress.
-pub record Follows (r : Running) (start now : Share) : Type 0 where
-  pub w : Volume
-  pub f : Forms
-  pub files : Files
-  pub is_now : share_of files r.plan.volume ≡ now
-  pub fits : FitsProgress w f (finals start) r.plan r.states files
+-- the records that its decode makes of these files
+abbrev pub made_records : Plan → Share → List Placed
+made_records plan start = records (dat_of (finals start) ++ deletions plan.deleted.items)
 
-module _ (r : Running) (start now : Share) (follows : Follows r start now) where
-  pub kept_now : IsKept follows.f (finals now)
-  kept_now = subst (λ (s : Share). IsKept follows.f (finals s)) follows.is_now follows.fits.fits.kept
+module _ (r : Running) (row : Row) (start now : Share) (follows : Follows r row start now) where
+  -- the table tells of the shards
+  pub placed : FitsPlaces r.plan r.states row
+  placed = follows.fits.way.places
 
-  -- `underway`
-  pub underway : (vol : Volume) → volume_of (finals start) ≡ Some vol → IsUnderway r.plan.command vol (finals now)
-  underway vol means = kept_underway r.plan.command follows.w follows.f (finals start) (finals now) vol follows.fits.begins.changes follows.fits.forms follows.fits.begins.kept means kept_now
+  -- the volume is what it was, in the one form or the other
+  pub underway : (vol : Volume) → volume_of (finals start) ≡ Some vol → IsUnderway (told r.plan).command vol (finals now)
+  underway vol means = progress_underway follows.w follows.f r row start now follows.fits vol means
 
-  -- `firm`, of files with names alone, and whatever the start was
-  pub firm : (server : ℕ) (kind : Kind) → IsKind kind → IsFirm (now server kind false)
-  firm server kind is = subst (λ (s : Share). IsFirm (s server kind false)) follows.is_now (follows.fits.fits.firm server kind is)
+  -- files under their final names are firm where they were
+  pub firm : IsFirmShare start → IsFirmShare now
+  firm is = progress_firm follows.w follows.f r row start now follows.fits is
+
+-- what a step that was tried keeps, by the forms of each plan that has come so far
+abbrev pub KeepsAll : Running → Row → Disk → Disk → Type 0
+KeepsAll r row old new = (start : Share) (follows : Follows r row start (share_of old.files r.plan.volume)) → StepKeeps r.plan follows.f start old new
+
+module _ (r : Running) (row : Row) (old new : Disk) (keeps : KeepsAll r row old new) where
+  -- a stop leaves the volume underway
+  pub leaves : (start : Share) (vol : Volume) → Follows r row start (share_of old.files r.plan.volume) → IsFirmShare start → volume_of (finals start) ≡ Some vol
+      → Leaves old new (λ image said. IsUnderway (told r.plan).command vol (files_of image r.plan.volume))
+  leaves start vol follows is_firm means = step_underway follows.w follows.f r row start (share_of old.files r.plan.volume) follows.fits vol means old new (keeps start follows) is_firm
+
+  -- and no last copy of a shard goes, but in a decode
+  pub copies : (start : Share) → Follows r row start (share_of old.files r.plan.volume) → (told r.plan).command ≢ Decode → KeepsCopies (finals (share_of old.files r.plan.volume)) (finals (share_of new.files r.plan.volume))
+  copies start follows other = (keeps start follows).copies other

@@ -193,6 +193,7 @@ encode_begins t plan start idx encode none info ids index read_back alone exact 
     none_else = λ server kind below is new. none_there server kind below is (sym (encode_finds plan server kind encode) ∙ new) (start server kind) refl;
     shards = λ server i h e. absurd (true≢false (sym e ∙ encode_finds plan server (Shard i) encode));
     beside = λ server e. absurd (true≢false (sym e ∙ encode_finds plan server Vif encode));
+    whole = λ server e. absurd (true≢false (sym e ∙ encode_finds plan server Ecj encode));
     index = λ server e. subst (λ s. IsTrue (stands start s Idx)) (found_home plan server Idx (sym (encode_finds plan server Idx encode) ∙ e)) (ap is_some alone.has_index);
   };
   read_back = read_back;

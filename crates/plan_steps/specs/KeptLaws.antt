@@ -132,7 +132,12 @@ pub kept_none_made : (f : Forms) (files : VolumeFiles) → IsKept f files → Ha
 kept_none_made f files (inl (changes, kept)) = kept.none_made
 kept_none_made f files (inr kept) = none_of_none files kept.form.no_index
 
-fold_mode : (v : Volume) (ps : List Placed) → (fold_from v ps).mode ≡ v.mode
+-- and where no index stands they are in the coded form
+pub coded_where : (f : Forms) (files : VolumeFiles) → IsKept f files → index_home files ≡ None → IsKeptCoded f.parts files
+coded_where f files (inl (changes, kept)) none = absurd (true≢false (sym kept.some_index ∙ ap is_some none))
+coded_where f files (inr kept) none = kept
+
+pub fold_mode : (v : Volume) (ps : List Placed) → (fold_from v ps).mode ≡ v.mode
 fold_mode v [] = refl
 fold_mode v (p ∷ ps) = fold_mode (after_record v p.1) ps
 

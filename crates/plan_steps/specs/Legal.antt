@@ -9,7 +9,8 @@ use Rattle.stripe_layout.specs.Information.{info_of, info_text}
 use Rattle.stripe_layout.specs.Stripes.{shards_in_all}
 use Rattle.shard_table.specs.Table.{Row, place_in}
 use Rattle.volume_forms.specs.Forms.{has_super, entries, entry_bytes}
-use Rattle.image_meaning.specs.Files.{VolumeFiles, max_servers, stands, lowest}
+use Rattle.wire_num.specs.Pairs.{journal_bytes}
+use Rattle.image_meaning.specs.Files.{VolumeFiles, max_servers, stands, bytes_at, lowest}
 use Rattle.image_meaning.specs.Plain.{IsExact}
 use Rattle.image_meaning.specs.Sound.{Stands}
 use Rattle.image_meaning.specs.Ends.{changes_form}
@@ -40,13 +41,14 @@ pub record TellsParts (parts : Parts) (plan : Plan) (start : VolumeFiles) : Type
   pub count : is_encode plan.command ≡ false → plan.entry_count ≡ length (entries parts.index)
   pub home : plan.command ≡ Decode → lowest (held plan) ≡ Some plan.home
 
--- Each file of the volume was found, and the shards and the files beside them are the parts'. Servers that no site has
--- don't matter.
+-- Each file of the volume was found, and the shards and the files beside them are the parts', with journals of whole pairs.
+-- Servers that no site has don't matter.
 pub record FindsFiles (parts : Parts) (plan : Plan) (start : VolumeFiles) : Type 0 where
   pub below : (server : ℕ) (kind : Kind) → IsFound plan server kind → server < max_servers
   pub none_else : (server : ℕ) (kind : Kind) → server < max_servers → IsKind kind → IsNew plan server kind → start server kind ≡ None
   pub shards : (server i : ℕ) → i < max_shards → IsFound plan server (Shard i) → slice_get parts.shards i ≡ start server (Shard i)
   pub beside : (server : ℕ) → IsFound plan server Vif → IsBeside parts start server
+  pub whole : (server : ℕ) → IsFound plan server Ecj → bytes_at start server Ecj ≡ journal_bytes parts.deleted
   pub index : (server : ℕ) → IsFound plan server Idx → IsTrue (stands start server Idx)
 
 -- the text that a plan writes is read as what it says, and so are the ids of a journal

@@ -57,6 +57,13 @@ some_at [] i h = absurd (omega arith)
 some_at (x ∷ xs) zero h = refl
 some_at (x ∷ xs) (suc i) h = some_at xs i (omega (arith, h))
 
+-- a place with a list is one of the lists' places
+pub numbered : {A : Type 0} (xs : List (List A)) (i : ℕ) (o : Option (List A)) → slice_get xs i ≡ o → is_some o ≡ true → i < length xs
+numbered [] i None e some = absurd (true≢false (sym some))
+numbered [] i (Some s) e some = absurd cc
+numbered (x ∷ xs) zero o e some = omega arith
+numbered (x ∷ xs) (suc i) o e some = omega (arith, numbered xs i o e some)
+
 -- the numbers below K + M are no fewer than K
 enough_numbers : (r : Ratio) → data_count r ≤ length (filter (λ i. nat_lt i (data_count r + parity_count r)) (range_with_len 0 max_shards))
 enough_numbers ThreeTwo = omega arith

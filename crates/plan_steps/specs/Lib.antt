@@ -20,11 +20,17 @@ pub mod Plans
 pub mod Progressing
 pub mod WayLaws
 pub mod ProgressLaws
+pub mod UnderwayLaws
 pub mod FormsLaws
 pub mod OrderLaws
 pub mod EncodeLaws
 pub mod DecodeLaws
 pub mod BeginLaws
+pub mod Members
+pub mod EndLaws
+pub mod DecodeEnd
+pub mod RoundLaws
+pub mod EncodeEnd
 pub mod Walk
 pub mod May
 pub mod WalkLaws

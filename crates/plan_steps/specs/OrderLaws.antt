@@ -25,12 +25,12 @@ none_some : {A : Type 0} {x : A} → None ≡ Some x → ⊥
 none_some e = cc
 
 -- the file whose name stands at a place
-named_at : {A B : Type 0} (f : A → B) (xs : List A) (k : ℕ) (y : B) → slice_get (map f xs) k ≡ Some y → (x : A) × (slice_get xs k ≡ Some x) × (f x ≡ y)
+pub named_at : {A B : Type 0} (f : A → B) (xs : List A) (k : ℕ) (y : B) → slice_get (map f xs) k ≡ Some y → (x : A) × (slice_get xs k ≡ Some x) × (f x ≡ y)
 named_at f [] k y e = absurd (none_some e)
 named_at f (x ∷ xs) zero y e = (x, refl, some_is (f x) y e)
 named_at f (x ∷ xs) (suc k) y e = named_at f xs k y e
 
-name_at : {A B : Type 0} (f : A → B) (xs : List A) (k : ℕ) (x : A) → slice_get xs k ≡ Some x → slice_get (map f xs) k ≡ Some (f x)
+pub name_at : {A B : Type 0} (f : A → B) (xs : List A) (k : ℕ) (x : A) → slice_get xs k ≡ Some x → slice_get (map f xs) k ≡ Some (f x)
 name_at f [] k x e = absurd (none_some e)
 name_at f (z ∷ xs) zero x e = ap (λ y. Some (f y)) (some_is z x e)
 name_at f (z ∷ xs) (suc k) x e = name_at f xs k x e

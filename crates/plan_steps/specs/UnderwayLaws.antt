@@ -1,32 +1,31 @@
--- Files in one of a plan's two forms hold the volume that the plan began with.
-use Rattle.std.proofs.Common.{◌≡◌, inl, inr, ℕ, true, false, List, [], ◌∷◌, Some, refl, sym, ◌∙◌, ap, subst, arith}
+-- While a plan runs its volume is underway: the files hold what they meant at the start, in a form that the command may have.
+use Rattle.std.proofs.Common.{◌≡◌, inl, inr, ℕ, Bool, true, false, List, [], ◌∷◌, Some, refl, sym, ◌∙◌, ap, subst}
 use mathlib.Core.Bool.{true≢false}
+use Rattle.site_model.specs.Disk.{Disk}
+use Rattle.site_model.specs.Leaves.{Leaves, weaker}
 use Rattle.world_model.specs.declared.types.Mode.{Mode}
 use Rattle.world_model.specs.declared.types.Mode.TheVariants as mode
 use Rattle.world_model.specs.declared.types.Command.{Command}
 use Rattle.world_model.specs.declared.types.Command.TheVariants.{Encode, Rebuild, Balance, Decode}
 use Rattle.world_model.specs.World.{Volume, empty_volume}
-use Rattle.file_names.specs.Names.{max_shards}
-use Rattle.file_names.specs.declared.Kind.TheVariants.{Shard}
-use Rattle.needle_record.specs.Records.{Placed, after_record, fold_from, fold_records}
-use Rattle.image_meaning.specs.Files.{VolumeFiles, stands, is_holder}
-use Rattle.image_meaning.specs.Coded.{info_at, coded_with}
+use Rattle.needle_record.specs.Records.{fold_records}
+use Rattle.shard_table.specs.Table.{Row}
+use Rattle.image_meaning.specs.Files.{VolumeFiles, files_of}
+use Rattle.image_meaning.specs.Coded.{coded_with}
 use Rattle.image_meaning.specs.Meaning.{volume_of}
-use Rattle.image_meaning.specs.Sound.{IsHolder}
 use Rattle.image_meaning.specs.Ends.{changes_form}
-use Rattle.image_meaning.specs.Outlasts.{IsHeld, HasDeleted, held_plain, held_coded}
+use Rattle.image_meaning.specs.Share.{Share, share_of, finals, IsFirmShare}
+use Rattle.image_meaning.specs.Outlasts.{IsHeld, held_plain, held_coded}
 use Rattle.image_meaning.specs.Near.{IsFormOf, IsUnderway}
-use Rattle.plan_steps.specs.Kept.{Forms, AreForms, IsKept, IsSameVolume}
 use Rattle.image_meaning.specs.Parts.{Parts}
-use Rattle.image_meaning.specs.HeldParts.{HoldsParts, any_member}
-use Rattle.plan_steps.specs.KeptLaws.{kept_plain, kept_plain_sound, kept_plain_means, kept_coded, kept_coded_rules, kept_coded_means}
+use Rattle.image_meaning.specs.HeldParts.{held_all}
+use Rattle.plan_steps.specs.Kept.{Forms, AreForms, IsKept, IsSameVolume}
+use Rattle.plan_steps.specs.KeptLaws.{fold_mode, kept_plain, kept_plain_sound, kept_plain_means, kept_coded, kept_coded_rules, kept_coded_means}
+use Rattle.plan_steps.specs.Runs.{StepKeeps}
+use Rattle.plan_steps.specs.Progressing.{Running, FitsProgress}
 
 some_is : {A : Type 0} (x y : A) → Some x ≡ Some y → x ≡ y
 some_is x y e = cc
-
-fold_from-mode : (vol : Volume) (ps : List Placed) → (fold_from vol ps).mode ≡ vol.mode
-fold_from-mode vol [] = refl
-fold_from-mode vol (p ∷ ps) = fold_from-mode (after_record vol p.1) ps
 
 form_plain : (command : Command) (m : Mode) → changes_form command ≡ true → IsFormOf command m mode.Plain
 form_plain (Encode ratio) m e = inl refl
@@ -57,28 +56,14 @@ of_start w f start vol forms (inr kept) means =
     let is : coded_with f.parts.dat f.parts.info f.parts.deleted ≡ vol = some_is (coded_with f.parts.dat f.parts.info f.parts.deleted) vol (sym (kept_coded_means f.parts forms.parts start kept) ∙ means) in
     record { same = subst (IsSameVolume w) is forms.coded; was_coded = λ e. ap (λ (u : Volume). u.mode) (sym is) }
 
--- each holder's journal is the target's
-pub holds_deleted : (t : Parts) (files : VolumeFiles) → HoldsParts t files → HasDeleted files t.deleted
-unfolding is_holder
-holds_deleted t files holds server h =
-    let found = any_member (λ i. stands files server (Shard i)) 0 max_shards h.1 in
-    (holds.each server found.0 (omega (arith, found.2)) (h.0, found.3)).0.journal
-
--- and its text is the target's
-pub holds_text : (t : Parts) (files : VolumeFiles) → HoldsParts t files → (server : ℕ) → IsHolder files server → info_at files server ≡ Some t.info
-unfolding is_holder
-holds_text t files holds server h =
-    let found = any_member (λ i. stands files server (Shard i)) 0 max_shards h.1 in
-    (holds.each server found.0 (omega (arith, found.2)) (h.0, found.3)).0.text
-
--- Kept files are underway: they hold what the volume was, in a form that the command may have.
+-- Kept files are underway.
 pub kept_underway : (command : Command) (w : Volume) (f : Forms) (start now : VolumeFiles) (vol : Volume) → f.changes ≡ changes_form command → AreForms w f → IsKept f start → volume_of start ≡ Some vol
     → IsKept f now → IsUnderway command vol now
 kept_underway command w f start now vol changes forms began means (inl (e, kept)) =
     let is = of_start w f start vol forms began means in
     let same = forms.plain e in
     let turned : fold_records f.kept ≡ record vol { mode = mode.Plain } =
-    in_form (fold_records f.kept) vol mode.Plain (same.0 ∙ sym is.same.0) (same.1 ∙ sym is.same.1) (fold_from-mode empty_volume f.kept) in
+    in_form (fold_records f.kept) vol mode.Plain (same.0 ∙ sym is.same.0) (same.1 ∙ sym is.same.1) (fold_mode empty_volume f.kept) in
     record {
       form = mode.Plain;
       is_form = form_plain command vol.mode (sym changes ∙ e);
@@ -89,9 +74,19 @@ kept_underway command w f start now vol changes forms began means (inr kept) =
     let turned : coded_with f.parts.dat f.parts.info f.parts.deleted ≡ record vol { mode = mode.Coded } =
     in_form (coded_with f.parts.dat f.parts.info f.parts.deleted) vol mode.Coded (forms.coded.0 ∙ sym is.same.0) (forms.coded.1 ∙ sym is.same.1) refl in
     let coded = kept_coded f.parts forms.parts now kept in
-    let held = held_coded now coded (kept_coded_rules f.parts forms.parts now kept) f.parts.deleted (holds_deleted f.parts now kept.holds) in
+    let held = held_coded now coded (kept_coded_rules f.parts forms.parts now kept) f.parts.deleted (held_all f.parts now kept.holds) in
     record {
       form = mode.Coded;
       is_form = form_coded command vol.mode (λ e. is.was_coded (changes ∙ e));
       held = subst (IsHeld now) (sym held.means ∙ kept_coded_means f.parts forms.parts now kept ∙ ap Some turned) held;
     }
+
+module _ (w : Volume) (f : Forms) (r : Running) (row : Row) (start now : Share) (fits : FitsProgress w f r row start now) (vol : Volume) (means : volume_of (finals start) ≡ Some vol) where
+  -- so are those of a plan that has come so far
+  pub progress_underway : IsUnderway r.plan.command vol (finals now)
+  progress_underway = kept_underway r.plan.command w f (finals start) (finals now) vol fits.begins.changes fits.forms fits.begins.kept means fits.fits.kept
+
+  -- and those that a stop within its next step leaves, where the files of the start were firm
+  pub step_underway : (old new : Disk) → StepKeeps r.plan f start old new → IsFirmShare start → Leaves old new (λ image said. IsUnderway r.plan.command vol (files_of image r.plan.volume))
+  step_underway old new keeps firm = weaker (keeps.leaves firm) (λ image said kept.
+      kept_underway r.plan.command w f (finals start) (files_of image r.plan.volume) vol fits.begins.changes fits.forms fits.begins.kept means kept)

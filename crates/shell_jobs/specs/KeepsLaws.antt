@@ -6,6 +6,7 @@ use Rattle.std.specs.List.{AllByRecursion}
 use Rattle.std.proofs.lemmas.Bool.{cases_eq, ne_eqb, eq-eqb}
 use Rattle.std.proofs.lemmas.List.{append-nil, take-append-le}
 use Rattle.site_model.specs.Disk.{Files, Disk}
+use Rattle.site_model.specs.Leaves.{Leaves, weaker}
 use Rattle.site_model.specs.Touches.{touches_none, Touches}
 use Rattle.world_model.specs.declared.types.Command.{Command}
 use Rattle.world_model.specs.declared.types.Line.TheVariants as line
@@ -23,17 +24,18 @@ use Rattle.job_board.specs.Jobs.{IsBoard, work_of}
 use Rattle.image_meaning.specs.Files.{contents, files_of}
 use Rattle.image_meaning.specs.Meaning.{volume_in, max_volumes}
 use Rattle.image_meaning.specs.Share.{IsSettled, Share, share_of, finals, IsOfVolume, IsFirmShare}
+use Rattle.image_meaning.specs.Near.{IsLeftBy, IsLeftByEither}
 use Rattle.image_meaning.specs.Jobs.{with_started, line_is_job}
 use Rattle.image_meaning.specs.Shards.{ShardsSo, shards_ended}
 use Rattle.shard_table.specs.Table.{Row}
 use Rattle.store_jobs.specs.Slots.{Slot, marked_by}
 use Rattle.store_jobs.specs.Plan.{Plan}
 use Rattle.store_jobs.specs.RestLaws.{has_volume_in, left_bounded}
-use Rattle.store_jobs.specs.Plans.{Plans, Runs}
+use Rattle.store_jobs.specs.Plans.{Plans, Runs, Tries}
 use Rattle.store_jobs.specs.Store.{Work, Store, work_at, FitsWork, FitsVolume, Fits, job_in, store_world}
-use Rattle.store_jobs.specs.StepLaws.{steps_fit, steps_world, end_fits, end_firm, end_world, base_after, working, shards_anew}
+use Rattle.store_jobs.specs.StepLaws.{steps_leave, steps_fit, steps_world, end_fits, end_firm, end_world, base_after, working, shards_anew}
 use Rattle.store_jobs.specs.ChangeLaws.{SameElsewhere, change_fits}
-use Rattle.store_jobs.specs.LineLaws.{step_allowed}
+use Rattle.store_jobs.specs.LineLaws.{step_allowed, may_start, line_leaves}
 use Rattle.store_jobs.specs.BoardWorld.{world_jobs}
 use Rattle.shell_jobs.specs.Progress.{Begin, world_at, left_of, commands_of, number_at, IsStart, StepsSo, Knows, Progress}
 
@@ -483,6 +485,16 @@ module _ (plans : Plans) where
       steps = steps_started begin p.replies before after whole reply.Done at p.steps fewer_done (λ job h. refl) v command false refl (ap (λ (w : World). w.next_job) (sym p.world))
           (did.same_next ∙ began.next) (omega (arith, over.none_left));
     }
+
+  -- What a stop within the line leaves, also where a step fails, is near the world before it or near the one after it.
+  pub line_stops : (begin : Begin) (before mid : Store plans) (old new : Disk) (v : ℕ) (command : Command) (p : Progress plans begin before old.files) (began : Starts begin.servers before mid old.files v command)
+      (at : slice_get begin.lines (length p.replies) ≡ Some (grammatical (line.Start v command false))) (steps : ℕ) → Tries plans steps v began.work.running (mid.rows v) old new → IsSettled begin.opening
+      → Leaves old new (λ image said. IsLeftByEither (world_at begin p.replies) (effect (world_at begin p.replies) (line.Start v command false) reply.Done) image)
+  line_stops begin before mid old new v command p began at steps tried settled =
+      weaker (steps_leave plans mid begin.servers steps old new p.knows.base (fits_started begin before mid old v command p began false reply.Done at refl) v began.below began.work began.there tried (p.knows.firm settled)) (λ image said left.
+      line_leaves (world_at begin p.replies) v command reply.Done image
+      (may_start (world_at begin p.replies) v command true (subst (λ (w : World). refusal_of w (line.Start v command true) ≡ None) p.world began.accepted))
+      (subst (λ (w : World). IsLeftBy w image) (world_started begin.servers before mid old.files v command began ∙ ap (λ (w : World). with_started w v command) p.world) left))
 
   -- ---- every other line
 

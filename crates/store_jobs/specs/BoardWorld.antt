@@ -1,19 +1,19 @@
 -- The jobs of a board as those of the store's world: what a start, a step and an end of a job make of both.
-use Rattle.std.proofs.Common.{◌≡◌, ◌≢◌, ℕ, ◌+◌, ◌<◌, Bool, true, false, List, [], ◌∷◌, ◌++◌, Option, Some, None, IsSome, refl, sym, ◌∙◌, ap, subst, arith}
+use Rattle.std.proofs.Common.{◌≡◌, ◌≢◌, ℕ, ◌<◌, Bool, true, false, List, [], ◌∷◌, ◌++◌, Option, Some, None, IsSome, refl, sym, ◌∙◌, ap, subst, arith}
 use Rattle.std.specs.Prelude.{◌==◌, not, if◌then◌else◌, map, filter, option_map}
 use Rattle.std.specs.List.{AllByRecursion, find}
 use Rattle.std.proofs.lemmas.Bool.{ne_eqb, eqb-true}
 use Rattle.std.proofs.lemmas.List.{map-append}
 use Rattle.site_model.specs.Disk.{Image}
 use Rattle.world_model.specs.World as world
-use Rattle.world_model.specs.Moves.{has_job}
+use Rattle.world_model.specs.Moves.{has_job, job_at}
 use Rattle.job_board.specs.declared.Job.{Job}
 use Rattle.job_board.specs.Jobs.{Jobs, InOrder, IsBoard, has_number, has_volume, set_work, volume_for, with_job, with_work, without, work_of}
 use Rattle.image_meaning.specs.Jobs.{AreInOrder, HasJobs}
 use Rattle.store_jobs.specs.Plans.{Plans}
 use Rattle.store_jobs.specs.Store.{Work, Store, work_at, command_in, job_in, store_world}
-use Rattle.store_jobs.specs.LineLaws.{found_job}
-use Rattle.store_jobs.specs.BoardLaws.{SameTests, found_all, found_work, map_filter, same_tests, set_set, filter_set, work_of_set, work_of_set_others, work_of_without, work_of_without_others, work_on_number, work_set, work_set_others, work_without, work_without_others, started_work, started_others, started_number, started_numbers, all_in_set, all_in_without, all_in_behind}
+use Rattle.store_jobs.specs.LineLaws.{found_job, found_at}
+use Rattle.store_jobs.specs.BoardLaws.{SameTests, found_all, found_work, map_filter, same_tests, work_of_set, work_of_set_others, work_of_without, work_of_without_others, work_on_number, work_set, work_set_others, work_without, work_without_others, all_in_set, all_in_without}
 
 module _ (plans : Plans) where
   -- ---- numbers and volumes
@@ -165,6 +165,14 @@ module _ (plans : Plans) where
       finished_all_in all = subst (AllByRecursion (λ (job : Job (Work plans)). IsSome job.work)) (sym unfinished_left) (all_in_without n b.unfinished all)
 
   -- ---- a job is started
+
+  -- a volume that no job of the world has, no job of the board has
+  pub free_there : (jobs : List (Job (Work plans))) (v : ℕ) → job_at (map (job_in plans) jobs) v ≡ None → find (has_volume v) jobs ≡ None
+  free_there jobs v free = by_found (find (has_volume v) jobs) refl (sym (found_at plans jobs v) ∙ free)
+    where
+      by_found : (o : Option (Job (Work plans))) → find (has_volume v) jobs ≡ o → option_map (job_in plans) o ≡ None → find (has_volume v) jobs ≡ None
+      by_found None is none = is
+      by_found (Some job) is none = absurd cc
 
   pub started_jobs : (b : Jobs (Work plans)) (v : ℕ) (work : Work plans)
       → map (job_in plans) (with_job b v work).unfinished ≡ map (job_in plans) b.unfinished ++ record { number = b.next; volume = v; command = (plans.plan work.running).command } ∷ []

@@ -7,12 +7,15 @@ use Rattle.site_model.specs.Disk.{Image}
 use Rattle.world_model.specs.World.{Volume, World}
 use Rattle.world_model.specs.World as world
 use Rattle.world_model.specs.declared.types.Command.{Command}
+use Rattle.world_model.specs.declared.types.Command.TheVariants.{Encode, Rebuild, Balance, Decode}
+use Rattle.world_model.specs.declared.types.Mode.{Mode}
+use Rattle.world_model.specs.declared.types.Mode.TheVariants as mode
 use Rattle.world_model.specs.declared.types.Line.TheVariants as line
 use Rattle.world_model.specs.declared.types.Reply.{Reply}
 use Rattle.world_model.specs.declared.types.Reply.TheVariants as reply
 use Rattle.world_model.specs.declared.types.Refusal.{Refusal}
 use Rattle.world_model.specs.declared.types.Refusal.TheVariants as refusal
-use Rattle.world_model.specs.Moves.{has_job, job_at, grammatical, Allowed, Accepted, effect, without_job}
+use Rattle.world_model.specs.Moves.{has_job, job_at, grammatical, Allowed, Accepted, busy, effect, first, is_lost, refusal_of, when, without_job, wrong_form}
 use Rattle.job_board.specs.declared.Job.{Job}
 use Rattle.job_board.specs.Jobs.{has_number, has_volume}
 use Rattle.image_meaning.specs.Near.{IsLeftBy, IsLeftByEither}
@@ -58,10 +61,56 @@ pub wait_allowed : (w : World) (n : ℕ) (job : world.Job) → has_job w.jobs n 
 wait_allowed w n job found =
     subst (λ (o : Option Refusal). MatchOption o (Accepted w (line.Wait n) (reply.Ended n)) (λ why. reply.Ended n ≡ reply.Refused why)) (sym (job_free w n job found)) refl
 
+-- ---- a start that isn't refused
+
+-- Its volume is there and suits the command, and no job has it.
+pub record MayStart (w : World) (v : ℕ) (command : Command) : Type 0 where
+  pub vol : Volume
+  pub has : w.volumes v ≡ Some vol
+  pub free : job_at w.jobs v ≡ None
+  pub suits : Suits command vol.mode
+
+no_row : (test : Bool) (r : Refusal) (rows : List (Option Refusal)) → first (when test r ∷ rows) ≡ None → (test ≡ false) × (first rows ≡ None)
+no_row true r rows e = absurd cc
+no_row false r rows e = (refl, e)
+
+not_busy : (w : World) (v : ℕ) (o : Option world.Job) (rows : List (Option Refusal)) → first (option_map (λ (j : world.Job). refusal.Busy j.number) o ∷ rows) ≡ None → (o ≡ None) × (first rows ≡ None)
+not_busy w v None rows e = (refl, e)
+not_busy w v (Some j) rows e = absurd cc
+
+right_form : (command : Command) (m : Mode) → is_lost m ≡ false → first (wrong_form command m ∷ []) ≡ None → Suits command m
+right_form (Encode ratio) mode.Plain kept e = refl
+right_form (Encode ratio) mode.Sealed kept e = refl
+right_form (Encode ratio) mode.Coded kept e = absurd cc
+right_form (Encode ratio) mode.Lost kept e = absurd cc
+right_form Rebuild mode.Coded kept e = refl
+right_form Rebuild mode.Plain kept e = absurd cc
+right_form Rebuild mode.Sealed kept e = absurd cc
+right_form Rebuild mode.Lost kept e = absurd cc
+right_form Balance mode.Coded kept e = refl
+right_form Balance mode.Plain kept e = absurd cc
+right_form Balance mode.Sealed kept e = absurd cc
+right_form Balance mode.Lost kept e = absurd cc
+right_form Decode mode.Coded kept e = refl
+right_form Decode mode.Plain kept e = absurd cc
+right_form Decode mode.Sealed kept e = absurd cc
+right_form Decode mode.Lost kept e = absurd cc
+
+pub may_start : (w : World) (v : ℕ) (command : Command) (background : Bool) → refusal_of w (line.Start v command background) ≡ None → MayStart w v command
+may_start w v command background accepted = by_volume (w.volumes v) refl accepted
+  where
+    by_volume : (o : Option Volume) → w.volumes v ≡ o
+        → option_map_or (λ (vol : Volume). first (when (is_lost vol.mode) refusal.Lost ∷ (busy w v ∷ wrong_form command vol.mode ∷ []))) o (Some refusal.NoVolume) ≡ None → MayStart w v command
+    by_volume None is e = absurd cc
+    by_volume (Some vol) is e =
+        let kept = no_row (is_lost vol.mode) refusal.Lost (busy w v ∷ wrong_form command vol.mode ∷ []) e in
+        let idle = not_busy w v (job_at w.jobs v) (wrong_form command vol.mode ∷ []) kept.1 in
+        record { vol = vol; has = is; free = idle.0; suits = right_form command vol.mode kept.0 idle.1 }
+
 -- What is near the world with the job, started in the line, is near the world before the line or near the one after it.
-pub line_leaves : (w : World) (v : ℕ) (command : Command) (vol : Volume) (r : Reply) (image : Image) → job_at w.jobs v ≡ None → w.volumes v ≡ Some vol → Suits command vol.mode
-    → IsLeftBy (with_started w v command) image → IsLeftByEither w (effect w (line.Start v command false) r) image
-line_leaves w v command vol r image free has suits left = record { sound = left.sound; worlds = λ u may. near_started w v command vol r free has suits u (left.worlds u may) }
+pub line_leaves : (w : World) (v : ℕ) (command : Command) (r : Reply) (image : Image) → MayStart w v command → IsLeftBy (with_started w v command) image
+    → IsLeftByEither w (effect w (line.Start v command false) r) image
+line_leaves w v command r image may left = record { sound = left.sound; worlds = λ u means. near_started w v command may.vol r may.free may.has may.suits u (left.worlds u means) }
 
 -- What is near the world after some job's end, at the end of the source, is near the world that no line has changed since.
 pub end_leaves : (w : World) (n : ℕ) (job : world.Job) (image : Image) → HasJobs w → has_job w.jobs n ≡ Some job → IsLeftBy (without_job w n) image → IsLeftBy w image

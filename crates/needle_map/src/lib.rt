@@ -1,23 +1,29 @@
 //! The index of a volume in memory: a map from the ids of needles to their index entries.
 #![tactic(auto)]
 
-ghost use Rattle.std.specs.Prelude.{◌≡◌, ◌==◌, ◌<◌, Some, IfSome, IsOk, IsSome, OnErr, OnOk, slice_get};
+ghost use Rattle.std.specs.Prelude.{◌≡◌, ◌==◌, IfSome, IsOk, IsSome, OnErr, OnOk};
 ghost use Rattle.std.specs.FinMap as map;
+ghost use Rattle.needle_map.specs.Entries as entries;
 
-mod rising;
-
-use rising::{put_entry, remove_entry, search};
 use std::alloc::{AllocError, Global};
+use std::collections::{BTreeMap, btree_map};
 use std::marker::Model;
 use volume_forms::Entry;
 
+/// What an entry says beside its id.
+#[derive(Clone, Copy, Debug)]
+struct Place {
+    offset: u32,
+    size: i32,
+}
+
 /// A map from ids to entries, each under its own id.
 ///
-/// It keeps the entries by rising id in one vector: a look-up halves, and entries that come by rising id
-/// are appended.
+/// Whatever the order in which ids come and go, a call costs the logarithm of their number. An entry takes 16 bytes,
+/// and its share of a tree whose nodes are half full at least.
 #[derive(Debug, Drop)]
 pub struct NeedleMap {
-    entries: Vec<Entry>,
+    places: BTreeMap<u64, Place>,
 }
 
 impl Model for NeedleMap {
@@ -25,24 +31,24 @@ impl Model for NeedleMap {
     ghost use Rattle.std.specs.Coded.{coded_ℕ};
     ghost use Rattle.std.specs.FinMap as map;
     ghost use Rattle.volume_forms.specs.declared.Entry.{Entry};
-    ghost use Rattle.needle_map.specs.Rising.{AreRising, by_id, coded_entry};
+    ghost use Rattle.needle_map.specs.Entries.{by_id, coded_entry};
 
     ghost Value = { map.FinMap nat_cmp Entry };
 
     ghost coded = { map.code coded_ℕ coded_entry };
 
-    ghost view = { λ m. by_id m.entries.items };
-
-    ghost invariant = { λ m. AreRising m.entries.items };
+    ghost view = { λ m. by_id m.places.entries };
 }
 
 impl NeedleMap {
+    ghost use Rattle.needle_map.specs.Entries.{left_of};
+
     /// The empty map. It takes no memory.
     pub fn new(alloc: Global) -> NeedleMap
         ensures { result ≡ map.empty }
     {
         NeedleMap {
-            entries: Vec::new(alloc),
+            places: BTreeMap::new(alloc),
         }
     }
 
@@ -51,10 +57,8 @@ impl NeedleMap {
         ensures value { result ≡ map.get self.now id }
         ensures own_id { IfSome result (λ entry. entry.id ≡ id) }
     {
-        match search(&self.entries, id) {
-            Ok(at) => Some(self.entries[at]),
-            Err(_) => None,
-        }
+        let place = self.places.get(&id)?;
+        Some(entry_at(id, *place))
     }
 
     /// Sets the entry of its id. It takes memory for a new id alone.
@@ -63,37 +67,81 @@ impl NeedleMap {
         ensures err { OnErr result (self.new ≡ self.old) }
         ensures overwrite_succeeds { IsSome (map.get self.old entry.id) → IsOk result }
     {
-        put_entry(&mut self.entries, entry)
+        self.places.insert(entry.id, place_of(entry))?;
+        Ok(())
     }
 
     /// Takes the entry of the id out, if it is there.
     pub fn remove(&mut self, id: u64)
         ensures { self.new ≡ map.remove self.old id }
     {
-        remove_entry(&mut self.entries, id);
+        let _place = self.places.remove(&id);
     }
 
     /// How many entries there are.
     pub fn len(&self) -> usize
         ensures { result ≡ map.len self.now }
     {
-        self.entries.len()
+        self.places.len()
     }
 
     /// Whether there is no entry.
     pub fn is_empty(&self) -> bool
         ensures { result ≡ (map.len self.now == 0) }
     {
-        self.entries.is_empty()
+        self.places.len() == 0
     }
 
-    /// The entry at this place by rising id.
-    pub fn entry_at(&self, place: usize) -> Entry
-        requires { place < map.len self.now }
-        ensures value { slice_get (map.values self.now) place ≡ Some result }
-        ensures own_id { map.get self.now result.id ≡ Some result }
+    /// The entries by rising id.
+    pub fn iter(&self) -> ByRisingId<'_>
+        ensures { left_of result ≡ map.values self.now }
     {
-        self.entries[place]
+        ByRisingId {
+            places: self.places.iter(),
+        }
+    }
+}
+
+/// Entries by rising id.
+#[derive(Drop)]
+pub struct ByRisingId<'a> {
+    places: btree_map::Iter<'a, u64, Place>,
+}
+
+impl<'a> Iterator for ByRisingId<'a> {
+    ghost use Rattle.std.specs.Iterator.{YieldsFirst, item_count};
+    ghost use Rattle.needle_map.specs.Entries.{left_of};
+
+    type Item = Entry;
+
+    ghost next_gives = { YieldsFirst left_of };
+
+    ghost remaining = { item_count left_of };
+
+    fn next(&mut self) -> Option<Entry> {
+        let (id, place) = self.places.next()?;
+        Some(entry_at(*id, *place))
+    }
+}
+
+// Where the entry's record is.
+fn place_of(entry: Entry) -> Place
+    ensures { entries.entry_at entry.id result ≡ entry }
+{
+    Place {
+        offset: entry.offset,
+        size: entry.size,
+    }
+}
+
+// The entry of an id whose record is at this place.
+fn entry_at(id: u64, place: Place) -> Entry
+    ensures { result ≡ entries.entry_at id place }
+{
+    Entry {
+        id,
+        offset: place.offset,
+        size: place.size,
     }
 }
 
@@ -113,8 +161,9 @@ mod tests {
             map.put(entry(id, offset, 14))?;
         }
         assert_eq!(rt; map.len(), 4);
-        assert_eq!(rt; map.entry_at(0), entry(4, 12, 14));
-        assert_eq!(rt; map.entry_at(3), entry(300, 6, 14));
+        let mut entries = map.iter();
+        assert_eq!(rt; entries.next(), Some(entry(4, 12, 14)));
+        assert_eq!(rt; entries.last(), Some(entry(300, 6, 14)));
         Ok(())
     }
 

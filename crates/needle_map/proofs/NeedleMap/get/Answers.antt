@@ -1,18 +1,15 @@
-use Rattle.std.proofs.Common.{ap, sym, ◌∙◌, Some}
-use Rattle.std.proofs.lemmas.List.{get_or_default}
-use Rattle.needle_map.specs.Rising.{no_entry}
-use Rattle.needle_map.proofs.Places.{get_at, get_in_gap}
+use Rattle.std.proofs.Common.{sym, ◌∙◌, ap}
+use Rattle.std.specs.Option.{option_map, option_copied}
+use Rattle.needle_map.specs.Entries.{entry_at}
+use Rattle.needle_map.proofs.Places.{get-by_id}
 use Rattle.needle_map.proofs.NeedleMap.get.Goals as goal
 
--- the entry stands at its place, and is the one that was read
-pub returns-in-Ok-clause-value : goal.returns-in-Ok-clause-value
-returns-in-Ok-clause-value c =
-    let at = rw c.deref.ensures.value at c.in-Ok.ensures.found in
-    let found = get_at c.self.inside.entries.items c.args.id c.in-Ok.at c.self.invariant at in
-    let read = get_or_default c.self.inside.entries.items c.in-Ok.at c.index.result.now no_entry at.in_range in
-    rw (← c.self.view_is, found) (ap Some (c.index.ensures ∙ read))
+pub returns-in_err-place-clause-value : goal.returns-in_err-place-clause-value
+returns-in_err-place-clause-value c =
+    let found = get-by_id c.self.inside.places.entries c.args.id ∙ ap (option_map (entry_at c.args.id)) (sym c.get.ensures.value ∙ ap option_copied c.in_err-place.was) in
+    c.from_residual.ensures ∙ sym (rw (← c.self.view_is) found)
 
-pub returns-in-Err-clause-value : goal.returns-in-Err-clause-value
-returns-in-Err-clause-value c =
-    let gap = rw c.deref.ensures.value at c.in-Err.ensures.absent in
-    rw (← c.self.view_is) (sym (get_in_gap c.self.inside.entries.items c.args.id c.in-Err.field-0 c.self.invariant gap))
+pub returns-clause-value : goal.returns-clause-value
+returns-clause-value c =
+    let found = get-by_id c.self.inside.places.entries c.args.id ∙ ap (option_map (entry_at c.args.id)) (sym c.get.ensures.value ∙ ap option_copied c.in_ok-place.was) in
+    rw (← c.self.view_is, c.entry_at.ensures) (sym found)

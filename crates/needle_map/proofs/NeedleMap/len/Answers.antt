@@ -1,8 +1,6 @@
-use Rattle.std.proofs.Common.{arith}
+use Rattle.std.proofs.Common.{sym, ◌∙◌}
 use Rattle.needle_map.proofs.Places.{len-by_id}
 use Rattle.needle_map.proofs.NeedleMap.len.Goals as goal
 
 pub returns : goal.returns
-returns c =
-    let length_is = len-by_id c.self.inside.entries.items c.self.invariant in
-    rw (← c.self.view_is, length_is) (omega (arith, c.len.ensures, c.self.inside.entries.ok.0))
+returns c = rw (← c.self.view_is) (c.len.ensures.len ∙ sym (len-by_id c.self.inside.places.entries c.len.ensures.ordered))

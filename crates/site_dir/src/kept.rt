@@ -34,7 +34,7 @@ pub struct KeptFiles<F> {
 }
 
 impl<F: Drop> KeptFiles<F> {
-    ghost use Rattle.std.specs.Prelude.{◌≡◌, ◌≤◌, length, IfOk, MatchOption, []};
+    ghost use Rattle.std.specs.Prelude.{◌≡◌, ◌<◌, ◌↔◌, ◌≤◌, drop, length, IfOk, IsTrue, MatchOption, []};
     ghost use Rattle.site_dir.specs.Kept.{IsAt, AreElsewhere, without_place};
 
     pub fn new(alloc: Global) -> Self
@@ -48,7 +48,8 @@ impl<F: Drop> KeptFiles<F> {
     /// Where the file stands, if it is kept.
     #[tactic(auto, using(crate::proofs::Keeping::one_more, crate::proofs::Keeping::all))]
     pub fn position(&self, server: u32, name: &str) -> Option<usize>
-        ensures { MatchOption result (AreElsewhere (server, name.now) self.now.files.items) (λ at. IsAt (server, name.now) self.now.files.items at) }
+        ensures { MatchOption result (AreElsewhere (server, name.now) self.now.files.items)
+            (λ at. IsAt (server, name.now) self.now.files.items at) }
     {
         for (at, kept) in self.files.iter().enumerate() {
             if kept.is_at(server, name) {
@@ -74,6 +75,18 @@ impl<F: Drop> KeptFiles<F> {
         }
         self.files.push(KeptFile { server, name, file })?;
         Ok(self.files.len() - 1)
+    }
+
+    /// Closes the file that was opened first, and answers whether there was one.
+    pub fn close_first(&mut self) -> bool
+        ensures closed { self.new.files.items ≡ drop 1 self.old.files.items }
+        ensures some { IsTrue result ↔ 0 < length self.old.files.items }
+    {
+        if self.files.is_empty() {
+            return false;
+        }
+        self.files.remove(0);
+        true
     }
 
     /// Closes the file, if it is kept.

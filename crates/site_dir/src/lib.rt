@@ -4,16 +4,20 @@
 #![tactic(auto)]
 
 mod clock;
+mod disk_file;
 mod files;
 mod folders;
 mod kept;
+mod opening;
 mod site;
 mod source;
 mod tally;
+mod trouble;
 
 pub use clock::SystemClock;
 pub use site::DirSite;
 pub use source::StdSource;
+pub use trouble::Trouble;
 
 #[cfg(test)]
 mod tests;

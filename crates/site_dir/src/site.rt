@@ -3,16 +3,18 @@ ghost use Rattle.std.specs.Prelude.{◌<◌, ◌≤◌};
 
 use crate::folders::Folders;
 use crate::tally::Tally;
+use crate::trouble::Trouble;
 use site_model::{Failed, Site, SiteError};
 use std::alloc::Global;
 use std::fs::{File, Files};
-use std::io;
-use std::io::{ErrorKind, Print};
+use std::io::Print;
 
 /// The folders `s00`, `s01`, .. of the current folder, each a server, and standard output, to which it says.
 ///
-/// The current folder stays the same as long as the site is used, and nothing else changes what stands in the
-/// servers' folders. Where memory lacks, `list` answers that; any other call fails then, with a fault of its server.
+/// The current folder stays the same as long as the site is used, and nothing but a site changes what stands in the
+/// servers' folders. One site at a time has them: it locks the current folder for as long as it is there. What isn't a
+/// regular file, a link say, counts as nothing: no call reads or changes it. Where memory lacks, `list` answers that;
+/// any other call fails then, with a fault of its server.
 #[derive(Drop)]
 pub struct DirSite<R: Files + Drop> {
     folders: Folders<R>,
@@ -22,37 +24,77 @@ pub struct DirSite<R: Files + Drop> {
     ghost few: { servers ≤ 64 },
 }
 
+fn lacks_memory<T>(found: &Result<T, Trouble>) -> bool {
+    match found {
+        Ok(_) => false,
+        Err(trouble) => trouble.is_of_memory(),
+    }
+}
+
 impl<R: Files<File = File> + AllocGlobal + Print + Clone + Drop> DirSite<R> {
-    ghost use Rattle.std.specs.Prelude.{◌≡◌, ◌<◌, ◌↔◌, IfOk, IsErr};
-    ghost use Rattle.site_model.specs.Counts.{CountsRead, CountsWrite, CountsSay};
+    ghost use Rattle.std.specs.Prelude.{◌≡◌, ◌<◌, ◌↔◌, IfOk, IsErr, IsSome};
+    ghost use Rattle.site_model.specs.Counts.{CountsRead, CountsWrite};
     ghost use Rattle.site_dir.specs.Counting.{counts_of, AreNone};
 
     /// The site of the current folder. There are as many servers as the highest of the numbers 0 to 63 that has
-    /// a folder asks for, and four where none has; folders that are missing are made. Every file that is found is
-    /// synced, so that a stop can't change it. Nothing was counted yet.
+    /// a folder asks for, and four where none has; folders that are missing are made. Every file of a volume that
+    /// is found is synced, so that a stop can't change it. Nothing was counted yet.
+    ///
+    /// No file that it opens gets the number of standard input, output or error, also where those were closed. It
+    /// fails where another site has the folder.
+    pub fn open(rt: R, alloc: Global) -> Result<DirSite<R>, Trouble>
+        ensures { IfOk result (λ site. AreNone (counts_of site.tally)) }
+    {
+        let tally = Tally::new(alloc)?;
+        let (folders, servers) = Folders::new(rt, alloc)?;
+        Ok(DirSite {
+            folders,
+            servers,
+            tally,
+        })
+    }
+
+    /// As `open`, for who doesn't ask for the file or folder that failed.
     pub fn new(rt: R, alloc: Global) -> Result<DirSite<R>, SiteError>
         ensures { IfOk result (λ site. AreNone (counts_of site.tally)) }
     {
-        match Folders::new(rt, alloc) {
-            Ok((folders, servers)) => Ok(DirSite {
-                folders,
-                servers,
-                tally: Tally::new(),
-            }),
-            Err(e) if e.kind() == ErrorKind::OutOfMemory => Err(SiteError::Memory),
+        match DirSite::open(rt, alloc) {
+            Ok(site) => Ok(site),
+            Err(trouble) if trouble.is_of_memory() => Err(SiteError::Memory),
             Err(_) => Err(SiteError::Failed),
         }
     }
 
+    /// Why the last call on a server that failed did, and None where none has.
+    pub fn trouble(&self, server: u32) -> Option<&Trouble>
+        ensures told { server < self.now.servers → 0 < (counts_of self.now.tally).faults server
+            → IsSome result }
+    {
+        if server < self.servers {
+            self.tally.trouble(server)
+        } else {
+            None
+        }
+    }
+
     // Counts a call that writes, which the machine answered so.
-    fn wrote(&mut self, server: u32, width: usize, done: io::Result<()>) -> Result<(), Failed>
+    fn wrote(&mut self, server: u32, width: usize, done: Result<(), Trouble>) -> Result<(), Failed>
         requires { server < self.old.servers }
-        ensures counts { CountsWrite server width (counts_of self.old.tally) (counts_of self.new.tally) (IsErr result) }
+        ensures counts { CountsWrite server width (counts_of self.old.tally) (counts_of self.new.tally)
+            (IsErr result) }
         ensures servers { self.new.servers ≡ self.old.servers }
         ensures outcome { IsErr result ↔ IsErr done }
     {
-        self.tally.count_write(server, width, done.is_err());
-        done.map_err(|_| Failed)
+        match done {
+            Ok(()) => {
+                self.tally.count_write(server, width, None);
+                Ok(())
+            }
+            Err(trouble) => {
+                self.tally.count_write(server, width, Some(trouble));
+                Err(Failed)
+            }
+        }
     }
 
     // Counts a call that doesn't write, which the machine answered so.
@@ -60,15 +102,24 @@ impl<R: Files<File = File> + AllocGlobal + Print + Clone + Drop> DirSite<R> {
         &mut self,
         server: u32,
         width: usize,
-        found: io::Result<T>,
+        found: Result<T, Trouble>,
     ) -> Result<T, Failed>
         requires { server < self.old.servers }
-        ensures counts { CountsRead server width (counts_of self.old.tally) (counts_of self.new.tally) (IsErr result) }
+        ensures counts { CountsRead server width (counts_of self.old.tally) (counts_of self.new.tally)
+            (IsErr result) }
         ensures servers { self.new.servers ≡ self.old.servers }
         ensures outcome { IsErr result ↔ IsErr found }
     {
-        self.tally.count_read(server, width, found.is_err());
-        found.map_err(|_| Failed)
+        match found {
+            Ok(found) => {
+                self.tally.count_read(server, width, None);
+                Ok(found)
+            }
+            Err(trouble) => {
+                self.tally.count_read(server, width, Some(trouble));
+                Err(Failed)
+            }
+        }
     }
 }
 
@@ -88,21 +139,13 @@ impl<R: Files<File = File> + AllocGlobal + Print + Clone + Drop> Site for DirSit
         self.servers
     }
 
-    fn list(&mut self, alloc: Global, server: u32) -> Result<Vec<String>, SiteError> {
-        match self.folders.list(alloc, server) {
-            Ok(names) => {
-                self.tally.count_read(server, 0, false);
-                Ok(names)
-            }
-            Err(e) if e.kind() == ErrorKind::OutOfMemory => {
-                self.tally.count_read(server, 0, false);
-                Err(SiteError::Memory)
-            }
-            Err(_) => {
-                self.tally.count_read(server, 0, true);
-                Err(SiteError::Failed)
-            }
+    fn list(&mut self, _alloc: Global, server: u32) -> Result<Vec<String>, SiteError> {
+        let found = self.folders.list(server);
+        if lacks_memory(&found) {
+            self.tally.count_read(server, 0, None);
+            return Err(SiteError::Memory);
         }
+        self.looked(server, 0, found).map_err(|_| SiteError::Failed)
     }
 
     fn size(&mut self, server: u32, name: &str) -> Result<Option<u64>, Failed> {

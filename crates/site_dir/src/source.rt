@@ -1,9 +1,7 @@
 // Standard input as a source.
-ghost use Rattle.std.specs.Prelude.{◌≤◌, length, IfOk};
-
+use crate::files::read_some;
 use site_model::{Failed, Source};
-use std::io;
-use std::io::{ErrorKind, Input, Read};
+use std::io::Input;
 
 /// Standard input. It doesn't tell what is left of it.
 #[derive(Drop)]
@@ -27,19 +25,6 @@ impl<R: Input> StdSource<R> {
             taken: 0,
         }
     }
-}
-
-// A read that a signal interrupts took nothing, and is made again.
-fn read_some<I: Read>(reader: &mut I, out: &mut [u8]) -> io::Result<usize>
-    ensures { IfOk result (λ n. n ≤ length out.old) }
-{
-    for _ in 0..u64::MAX {
-        match reader.read(out) {
-            Err(e) if e.kind() == ErrorKind::Interrupted => {}
-            done => return done,
-        }
-    }
-    Err(io::Error::from(ErrorKind::Interrupted))
 }
 
 impl<R: Input> Source for StdSource<R> {

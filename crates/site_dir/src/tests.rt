@@ -4,6 +4,7 @@ ghost use Rattle.std.specs.Prelude.{IsTrue};
 use crate::{DirSite, StdSource, SystemClock};
 use site_model::{Clock, Failed, Site, Source};
 use std::alloc::Global;
+use std::os::unix::fs::symlink;
 use std::process::Abort;
 use std::test::Fail;
 use std::{env, fs, io, process};
@@ -51,11 +52,59 @@ fn change_a_file<T: Site>(rt: &impl Abort, alloc: Global, site: &mut T) -> Resul
     Ok(())
 }
 
+// Whether no site can be made, for a reason that begins so.
+fn is_refused(rt: &HostRuntime, reason: &str) -> Result<bool, Fail> {
+    match DirSite::open(rt, rt.alloc()) {
+        Ok(_) => Ok(false),
+        Err(trouble) => Ok(format!(in rt.alloc(); "{trouble}")?.starts_with(reason)),
+    }
+}
+
+// Changes a file by a site of its own, and answers whether a second site is refused meanwhile.
+fn locks_the_folder(rt: &HostRuntime, abort: &impl Abort) -> Result<bool, Fail> {
+    let mut site = DirSite::new(rt, rt.alloc())?;
+    change_a_file(abort, rt.alloc(), &mut site)?;
+    is_refused(rt, ".: another run uses this folder")
+}
+
+// Whether the trouble that the site tells of a server begins so.
+fn tells(
+    rt: &HostRuntime,
+    site: &DirSite<&HostRuntime>,
+    server: u32,
+    start: &str,
+) -> Result<bool, Fail> {
+    match site.trouble(server) {
+        Some(trouble) => Ok(format!(in rt.alloc(); "{trouble}")?.starts_with(start)),
+        None => Ok(false),
+    }
+}
+
+// Under this name of server 2 something stands that isn't a regular file: it has no size, nothing is written to it, and
+// no file takes its place.
+fn has_no_file(
+    rt: &HostRuntime,
+    abort: &impl Abort,
+    site: &mut DirSite<&HostRuntime>,
+    name: &str,
+) -> Result<(), Fail> {
+    let servers = site.servers();
+    assert_eq!(abort; servers, 3);
+    let size = site.size(2, name)?;
+    assert_eq!(abort; size, None);
+    let append = site.append(2, name, b"x");
+    assert_eq!(abort; append, Err(Failed));
+    let place = format!(in rt.alloc(); "s02/{name}: it isn't a regular file")?;
+    assert!(abort; tells(rt, site, 2, place.as_str())?);
+    let replaced = site.rename(2, "a", name);
+    assert_eq!(abort; replaced, Err(Failed));
+    Ok(())
+}
+
 #[test]
 fn files_of_the_folders_are_seen_again(rt: HostRuntime) -> Result<(), Fail> {
     let path = enter_folder(&rt)?;
-    let mut site = DirSite::new(&rt, rt.alloc())?;
-    change_a_file(&rt, rt.alloc(), &mut site)?;
+    assert!(rt; locks_the_folder(&rt, &rt)?);
     let mut again = DirSite::new(&rt, rt.alloc())?;
     assert_eq!(rt; again.servers(), 4);
     let size = again.size(1, "b")?;
@@ -66,28 +115,46 @@ fn files_of_the_folders_are_seen_again(rt: HostRuntime) -> Result<(), Fail> {
     again.remove(1, "b")?;
     let gone = again.size(1, "b")?;
     assert_eq!(rt; gone, None);
+    assert!(rt; again.trouble(1).is_none());
     let absent = again.sync(1, "b");
     assert_eq!(rt; absent, Err(Failed));
+    assert!(rt; tells(&rt, &again, 1, "s01/b: ")?);
     again.say(b"")?;
     leave_folder(&rt, path.as_str())?;
     Ok(())
 }
 
 #[test]
-fn lower_folders_are_made_and_a_folder_is_no_file(rt: HostRuntime) -> Result<(), Fail> {
+fn what_is_no_file_counts_as_nothing(rt: HostRuntime) -> Result<(), Fail> {
     let path = enter_folder(&rt)?;
-    fs::create_dir(&rt, "s02")?;
-    fs::create_dir(&rt, "s02/a")?;
+    fs::create_dir(&rt, "disk")?;
+    symlink(&rt, "disk", "s02")?;
+    fs::create_dir(&rt, "s02/7.dat")?;
+    fs::write(&rt, "elsewhere", "text")?;
+    symlink(&rt, "../elsewhere", "s02/8.dat")?;
+    symlink(&rt, "nowhere", "s02/9.dat")?;
     let mut site = DirSite::new(&rt, rt.alloc())?;
     assert_eq!(rt; site.servers(), 3);
-    let empty = site.list(rt.alloc(), 0)?;
-    assert_eq!(rt; empty.len(), 0);
-    let size = site.size(2, "a");
-    assert_eq!(rt; size, Err(Failed));
-    let append = site.append(2, "a", b"x");
-    assert_eq!(rt; append, Err(Failed));
+    site.append(2, "a", b"x")?;
+    let names = site.list(rt.alloc(), 2)?;
+    assert_eq!(rt; names.len(), 1);
+    for name in ["7.dat", "8.dat", "9.dat"] {
+        has_no_file(&rt, &rt, &mut site, name)?;
+    }
     let outside = site.append(0, "../a", b"x");
     assert_eq!(rt; outside, Err(Failed));
+    assert!(rt; !fs::exists(&rt, "s02/nowhere")?);
+    leave_folder(&rt, path.as_str())?;
+    Ok(())
+}
+
+#[test]
+fn folders_that_cant_all_be_made_are_not_made(rt: HostRuntime) -> Result<(), Fail> {
+    let path = enter_folder(&rt)?;
+    fs::write(&rt, "s01", "text")?;
+    assert!(rt; is_refused(&rt, "s01: ")?);
+    assert!(rt; !fs::exists(&rt, "s02")?);
+    assert!(rt; !fs::exists(&rt, "s03")?);
     leave_folder(&rt, path.as_str())?;
     Ok(())
 }

@@ -14,7 +14,7 @@ const NO_SITE: u8 = 8;
 pub enum Ending {
     /// The script was run, or its words were refused.
     Ran(Status),
-    /// The folders could not be read, made or synced.
+    /// The folders could not be locked, read, made or synced.
     NoSite,
 }
 
@@ -31,23 +31,41 @@ impl Ending {
 }
 
 impl Display for Ending {
+    ghost use Rattle.std.specs.Prelude.{Some};
+    ghost use Rattle.weed.specs.Endings.{ending_text};
+
+    ghost output = { λ ending. Some (ending_text ending) };
+
     fn fmt<W: fmt::Write>(&self, f: &mut Formatter<W>) -> fmt::Result {
         match *self {
-            Ending::Ran(status) => write_status(status, f),
-            Ending::NoSite => f.write_str("no site"),
+            Ending::Ran(status) => StatusLine { status }.fmt(f),
+            Ending::NoSite => write!(f, "no site"),
         }
     }
 }
 
-fn write_status<W: fmt::Write>(status: Status, f: &mut Formatter<W>) -> fmt::Result {
-    match status {
-        Status::Done => f.write_str("done"),
-        Status::Usage => f.write_str("usage"),
-        Status::Fault { server } => write!(f, "fault of server {server}"),
-        Status::Memory => f.write_str("memory"),
-        Status::Unsound { volume, rule } => write!(f, "volume {volume} breaks rule {rule}"),
-        Status::SourceFault => f.write_str("input fault"),
-        Status::SayFault => f.write_str("output fault"),
-        Status::TooMuch => f.write_str("input too long"),
+// The line of a run with this status.
+#[derive(Clone, Copy)]
+struct StatusLine {
+    status: Status,
+}
+
+impl Display for StatusLine {
+    ghost use Rattle.std.specs.Prelude.{Some};
+    ghost use Rattle.weed.specs.Endings.{status_text};
+
+    ghost output = { λ line. Some (status_text line.status) };
+
+    fn fmt<W: fmt::Write>(&self, f: &mut Formatter<W>) -> fmt::Result {
+        match self.status {
+            Status::Done => write!(f, "done"),
+            Status::Usage => write!(f, "usage"),
+            Status::Fault { server } => write!(f, "fault of server {server}"),
+            Status::Memory => write!(f, "memory"),
+            Status::Unsound { volume, rule } => write!(f, "volume {volume} breaks rule {rule}"),
+            Status::SourceFault => write!(f, "input fault"),
+            Status::SayFault => write!(f, "output fault"),
+            Status::TooMuch => write!(f, "input too long"),
+        }
     }
 }

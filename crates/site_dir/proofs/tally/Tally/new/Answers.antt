@@ -8,6 +8,8 @@ invariant_of-result c = record {
   write_faults_fit = λ i. omega (arith, filled {A = ℕ} 64 i 0);
   say_faults_fit = omega arith;
   calls_fit = omega arith;
+  troubles_fit = c.in_ok-no_troubles.ensures;
+  troubles_told = λ s some. absurd (omega (arith, some, filled {A = ℕ} 64 s 0));
 }
 
 pub returns : goal.returns

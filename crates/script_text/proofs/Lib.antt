@@ -1,6 +1,7 @@
 mod Rows
 pub mod WordLaws
 pub mod NumberLaws
+pub mod RatioLaws
 pub mod HexLaws
 pub mod OptionLaws
 pub mod ReturnLaws

@@ -3,4 +3,4 @@ pub mod Grammar
 pub mod Numerals
 pub mod Reading
 pub mod Texts
-pub mod TextLaws
+pub mod Laws

@@ -1,10 +1,10 @@
 -- What a reader of words answers.
-use Rattle.std.specs.Prelude.{◌≡◌, if◌then◌else◌, List, [], ◌∷◌, length, drop, nat_eq, Bool, true, false, codes, Option, Some, None, Result, Ok, Err}
+use Rattle.std.specs.Prelude.{◌≡◌, if◌then◌else◌, List, [], ◌∷◌, length, drop, nat_eq, Option, Some, None, Result, Ok, Err}
 use Rattle.std.specs.List.{starts_with}
 use Rattle.script_text.specs.declared.lines.Key.{Key}
 use Rattle.script_text.specs.declared.LineFault.{LineFault}
 use Rattle.script_text.specs.declared.LineFault.TheVariants.{Syntax, Memory}
-use Rattle.script_text.specs.Grammar.{Word, Part, ◌>>=◌, is_word, u32_in, u64_in, cookie_in}
+use Rattle.script_text.specs.Grammar.{Word, Part, ◌>>=◌, u32_in, u64_in, cookie_in}
 
 -- The value that the grammar has, or that it has none. Memory may be wanting at any time.
 abbrev pub Reads : {A : Type 0} → Option A → Result A LineFault → Type 0
@@ -22,12 +22,6 @@ ReadsPart part (Err Memory) rest = Unit {0}
 abbrev pub part_value : Word → List Word → Option Word × List Word
 part_value key [] = (None, [])
 part_value key (word ∷ more) = if starts_with nat_eq word key then (Some (drop (length key) word), more) else (None, word ∷ more)
-
--- whether `&` is the one word, where there is any
-abbrev pub background_in : List Word → Option Bool
-background_in [] = Some false
-background_in (word ∷ []) = if is_word (codes "&") word then Some true else None
-background_in (word ∷ other ∷ more) = None
 
 -- the volume, the id and the cookie in the first three words, and the words behind them
 abbrev pub key_in : List Word → Option (Key × List Word)

@@ -1,9 +1,11 @@
 //! The options of lines: a key in front of a value, in one word.
 ghost use Rattle.std.specs.Prelude.{◌≡◌, codes};
-ghost use Rattle.script_text.specs.Grammar.{job_option, mark_option, option_in, steps_in, u32_in, volume_option};
+ghost use Rattle.script_text.specs.Grammar.{job_option, mark_option, option_in, ratio_option, steps_in, u32_in, volume_option};
+ghost use Rattle.world_model.specs.Ratios.{ratio_in};
 
 use crate::values::{steps_word, u32_word, u64_word};
 use crate::words::is_word;
+use world_model::types::Ratio;
 
 pub(crate) fn volume_option(word: &[u8]) -> Option<u32>
     ensures { result ≡ volume_option word.now }
@@ -27,6 +29,22 @@ pub(crate) fn steps_option(word: &[u8]) -> Option<u32>
     ensures { result ≡ option_in (codes "-steps=") steps_in word.now }
 {
     steps_word(word.strip_prefix(b"-steps=")?)
+}
+
+pub(crate) fn ratio_option(word: &[u8]) -> Option<Ratio>
+    ensures { result ≡ ratio_option word.now }
+{
+    ratio_word(word.strip_prefix(b"-ratio=")?)
+}
+
+/// The ratio that a word is.
+fn ratio_word(word: &[u8]) -> Option<Ratio>
+    ensures { result ≡ ratio_in word.now }
+{
+    match str::from_utf8(word) {
+        Ok(text) => Ratio::of_word(text),
+        Err(_) => None,
+    }
 }
 
 /// Whether a volume is to be sealed.

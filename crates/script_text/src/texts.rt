@@ -136,7 +136,8 @@ fn write_flags(flags: u8, text: &mut String) -> Result<(), AllocError>
 
 /// The bytes behind their key, where they stand.
 fn write_bytes(key: &str, part: &Option<Bytes>, text: &mut String) -> Result<(), AllocError>
-    ensures { OnOk result (string_bytes text.new ≡ string_bytes text.old ++ part_text key.now encode_lower part.now) }
+    ensures { OnOk result (string_bytes text.new
+        ≡ string_bytes text.old ++ part_text key.now encode_lower part.now) }
 {
     let Some(bytes) = part else {
         return Ok(());
@@ -148,7 +149,8 @@ fn write_bytes(key: &str, part: &Option<Bytes>, text: &mut String) -> Result<(),
 
 /// The time of the last change in seconds, where it stands.
 fn write_modified(part: Option<u64>, text: &mut String) -> Result<(), AllocError>
-    ensures { OnOk result (string_bytes text.new ≡ string_bytes text.old ++ part_text (codes "modified=") decimal part) }
+    ensures { OnOk result (string_bytes text.new
+        ≡ string_bytes text.old ++ part_text (codes "modified=") decimal part) }
 {
     let Some(modified) = part else {
         return Ok(());
@@ -158,7 +160,8 @@ fn write_modified(part: Option<u64>, text: &mut String) -> Result<(), AllocError
 
 /// The time to live as it stands in a record, where it stands.
 fn write_ttl(part: Option<u16>, text: &mut String) -> Result<(), AllocError>
-    ensures { OnOk result (string_bytes text.new ≡ string_bytes text.old ++ part_text (codes "ttl=") (λ n. encode_lower (bytes_of 2 n)) part) }
+    ensures { OnOk result (string_bytes text.new
+        ≡ string_bytes text.old ++ part_text (codes "ttl=") (λ n. encode_lower (bytes_of 2 n)) part) }
 {
     let Some(ttl) = part else {
         return Ok(());

@@ -54,6 +54,13 @@ impl<'a> Words<'a> {
         Words { rest: line }
     }
 
+    /// The same words, to be read once more.
+    pub(crate) fn again(&self) -> Words<'a>
+        ensures { result ≡ self.now }
+    {
+        Words { rest: self.rest }
+    }
+
     /// Takes the first word where it has this key in front, and gives what follows the key.
     pub(crate) fn part(&mut self, key: &[u8]) -> Option<&'a [u8]>
         ensures value { option_copied result ≡ (part_value key.now self.old).0 }

@@ -2,8 +2,7 @@
 // calls.
 ghost use Rattle.std.specs.Prelude.{◌≡◌, IfOk};
 
-use super::openings::{DELETED_IDX, ONE_DAT, ONE_IDX};
-use super::running::{DAT, IDX, SERVER, VOLUME};
+use super::helpers::{DAT, DELETED_IDX, IDX, ONE_DAT, ONE_IDX, SERVER, VOLUME};
 use site_mem::{MemSite, Tear};
 use site_model::{OpenFault, Site};
 use site_recovery::recover;

@@ -1,4 +1,4 @@
-// A volume at the one server of a site in memory.
+// What the tests share: files as they are printed, a volume at the one server of a site in memory, and runs of the top call.
 ghost use Rattle.std.specs.Prelude.{◌≡◌, ◌<◌, ◌≤◌, ◌^◌, IsTrue, IsSome, IfOk, IfSome, length};
 ghost use Rattle.world_model.specs.Sizes.{Fits};
 ghost use Rattle.site_mem.specs.Site.{disk_at};
@@ -6,12 +6,14 @@ ghost use Rattle.dat_volume.specs.Places.{idx_place};
 
 use dat_volume::{DatVolume, GetFault};
 use file_names::{FileName, Kind, spell};
-use needle_record::{Record, record_size};
-use site_mem::MemSite;
+use needle_record::{Record, record_size, write_record};
+use site_mem::{FixedClock, MemSite, MemSource};
 use site_model::OpenFault;
 use std::alloc::{AllocError, Global};
 use std::process::Abort;
 use std::test::Fail;
+use volume_forms::{Entry, SuperBlock, write_entry, write_super};
+use weed_shell::{Status, weed};
 use wire_num::record_length;
 use world_model::bytes::Bytes;
 use world_model::types::Content;
@@ -23,6 +25,28 @@ pub const VOLUME: u32 = 7;
 pub const DAT: &str = "7.dat";
 
 pub const IDX: &str = "7.idx";
+
+/// A volume with the data "123456789" under id 1 and cookie 2a.
+pub const ONE_DAT: &str =
+    "03000000000000000000002a00000000000000010000000e00000009313233343536373839\
+     00e30692830000000000000000000000000000";
+
+pub const ONE_IDX: &str = "0000000000000001000000010000000e";
+
+/// The same, and the deletion of id 1.
+pub const DELETED_IDX: &str = "0000000000000001000000010000000e000000000000000100000007ffffffff";
+
+/// The lines that make that volume.
+pub const FIRST: &str =
+    "volume.create -volumeId=7 -server=0\nput 7 1 0000002a 313233343536373839\n";
+
+/// The super block of a new volume.
+const NEW_BLOCK: SuperBlock = SuperBlock {
+    version: 3,
+    placement: 0,
+    ttl: 0,
+    revision: 0,
+};
 
 /// The greatest length of a data file.
 const MAX_DAT: u64 = 1 << 35;
@@ -148,4 +172,100 @@ pub fn deletion(id: u64, cookie: u32) -> Record
         content: None,
         appended: 0,
     }
+}
+
+/// A data file with the deletion of this id.
+pub fn data_with(alloc: Global, id: u64) -> Result<Vec<u8>, AllocError> {
+    let mut bytes = Vec::new(alloc);
+    bytes.extend_from_slice(&write_super(&NEW_BLOCK))?;
+    let deletion = Record {
+        cookie: 0,
+        id,
+        content: None,
+        appended: 0,
+    };
+    write_record(&deletion, &mut bytes)?;
+    Ok(bytes)
+}
+
+/// Its index.
+pub fn index_with(id: u64) -> [u8; 16] {
+    write_entry(&Entry {
+        id,
+        offset: 1,
+        size: -1,
+    })
+}
+
+/// Whether the file stands, with these bytes.
+pub fn holds(site: &MemSite, server: u32, name: &str, bytes: &[u8]) -> bool {
+    match site.file(server, name) {
+        Some(found) => found == bytes,
+        None => false,
+    }
+}
+
+/// The words of a text, between spaces.
+pub fn words_in(alloc: Global, text: &str) -> Result<Vec<String>, AllocError> {
+    let mut words = Vec::new(alloc);
+    for word in text.split(' ') {
+        if !word.is_empty() {
+            words.push(String::from_str(alloc, word)?)?;
+        }
+    }
+    Ok(words)
+}
+
+/// How the run of a source ends.
+pub fn run_source(
+    alloc: Global,
+    words: &str,
+    site: &mut MemSite,
+    source: &mut MemSource,
+) -> Result<Status, Fail> {
+    let words = words_in(alloc, words)?;
+    let mut clock = FixedClock { now: 0 };
+    Ok(weed(alloc, &words, source, site, &mut clock))
+}
+
+/// How the run of a script ends, and what it says.
+pub fn run(
+    alloc: Global,
+    words: &str,
+    site: &mut MemSite,
+    script: &str,
+) -> Result<(Status, Vec<u8>), Fail> {
+    let before = site.said().len();
+    let mut source = MemSource::new(alloc, script.as_bytes())?;
+    let status = run_source(alloc, words, site, &mut source)?;
+    let said = site.said().get(before..).unwrap_or(&[]);
+    Ok((status, Vec::from_slice(alloc, said)?))
+}
+
+/// The script is answered so, after `ready`.
+pub fn see_answers(
+    rt: &impl Abort,
+    alloc: Global,
+    words: &str,
+    site: &mut MemSite,
+    script: &str,
+    answers: &str,
+) -> Result<(), Fail> {
+    let (status, said) = run(alloc, words, site, script)?;
+    assert_eq!(rt; str::from_utf8(&said)?, answers);
+    assert_eq!(rt; status, Status::Done);
+    Ok(())
+}
+
+/// The file has these bytes, given in hexadecimal.
+pub fn see_file(
+    rt: &impl Abort,
+    alloc: Global,
+    site: &MemSite,
+    name: &str,
+    bytes: &str,
+) -> Result<(), Fail> {
+    let wanted = hex::decode(alloc, bytes)?;
+    assert_eq!(rt; site.file(0, name), Some(wanted.as_slice()));
+    Ok(())
 }

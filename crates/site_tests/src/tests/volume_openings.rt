@@ -1,7 +1,10 @@
 // Files that are opened, and the needles that are read of them.
 ghost use Rattle.std.specs.Prelude.{◌≡◌, IfOk};
 
-use super::running::{DAT, IDX, Running, SERVER, VOLUME, deletion, has_index, needle, open};
+use super::helpers::{
+    DAT, DELETED_IDX, IDX, ONE_DAT, ONE_IDX, Running, SERVER, VOLUME, deletion, has_index, needle,
+    open,
+};
 use dat_volume::{DatVolume, GetFault};
 use needle_record::record_size;
 use site_mem::MemSite;
@@ -11,16 +14,6 @@ use std::process::Abort;
 use std::test::Fail;
 use wire_num::record_length;
 use world_model::types::What;
-
-/// A volume with the data "123456789" under id 1 and cookie 2a.
-pub const ONE_DAT: &str =
-    "03000000000000000000002a00000000000000010000000e00000009313233343536373839\
-     00e30692830000000000000000000000000000";
-
-pub const ONE_IDX: &str = "0000000000000001000000010000000e";
-
-/// The same, and the deletion of id 1.
-pub const DELETED_IDX: &str = "0000000000000001000000010000000e000000000000000100000007ffffffff";
 
 fn site_of(alloc: Global, dat: &[u8], idx: &[u8]) -> Result<MemSite, AllocError>
     ensures { IfOk result (λ site. site.servers ≡ 1) }

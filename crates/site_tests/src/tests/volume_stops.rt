@@ -2,7 +2,7 @@
 ghost use Rattle.std.specs.Prelude.{◌≡◌, ◌≤◌, ◌<◌};
 ghost use Rattle.site_mem.specs.Site.{counts_at};
 
-use super::running::{DAT, IDX, Running, SERVER, deletion, has_index, needle};
+use super::helpers::{DAT, IDX, Running, SERVER, deletion, has_index, needle};
 use site_mem::{MemSite, Tear};
 use std::alloc::Global;
 use std::process::Abort;

@@ -1,7 +1,7 @@
 // Openings of volumes whose vacuum was stopped.
-use super::{data_with, holds, index_with};
-use crate::recover;
+use super::helpers::{data_with, holds, index_with};
 use site_mem::{MemSite, Tear};
+use site_recovery::recover;
 use std::alloc::Global;
 use std::process::Abort;
 use std::test::Fail;

@@ -1,4 +1,0 @@
-mod openings;
-mod recoveries;
-mod running;
-mod stops;

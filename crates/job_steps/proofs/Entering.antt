@@ -2,7 +2,7 @@
 use Rattle.std.proofs.Common.{◌≡◌, ℕ, Bool, true, false, Some, None, Ok, refl, sym, ◌∙◌, ap, subst}
 use Rattle.std.specs.Prelude.{if◌then◌else◌}
 use Rattle.job_board.specs.Jobs.{Jobs, IsOut, volume_for, with_work, without, work_of}
-use Rattle.store_jobs.specs.BoardLaws.{out_set, finished_taken, given_back}
+use Rattle.store_jobs.specs.Laws.Board.{out_set, finished_taken, given_back}
 use Rattle.job_steps.specs.declared.engine.Work.{Work}
 use Rattle.job_steps.specs.declared.engine.Engine.{Engine}
 use Rattle.job_steps.specs.Stepping.{HasSlot, HasWork, HasEnded, StepsJob}

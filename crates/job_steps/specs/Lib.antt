@@ -1,3 +1,4 @@
 pub mod Steps
+pub mod Countdown
 pub mod StepsOn
 pub mod Stepping

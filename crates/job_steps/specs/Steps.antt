@@ -5,7 +5,7 @@ use Rattle.site_model.specs.Counts.{Counts, Rose, IsLater, TakesCalls}
 use Rattle.world_model.specs.declared.types.Command.TheVariants.{Decode}
 use Rattle.shard_table.specs.Table.{Row}
 use Rattle.image_meaning.specs.Share.{Share, share_of}
-use Rattle.store_jobs.specs.Plans.{Plans, Runs, ComesOn}
+use Rattle.plan_steps.specs.AnyPlans.{Plans, Runs, ComesOn}
 use Rattle.job_steps.specs.declared.More.{More}
 use Rattle.job_steps.specs.declared.More.TheVariants.{Running, Done}
 use Rattle.job_steps.specs.declared.StepFault.{StepFault}

@@ -2,12 +2,12 @@
 use Rattle.std.proofs.Common.{ℕ, ◌+◌, ◌<◌, ◌≤◌, Bool, true, false, refl, sym, ◌∙◌, ap, subst, arith}
 use Rattle.site_model.specs.Disk.{Disk}
 use Rattle.site_model.specs.Counts.{Counts}
-use Rattle.site_model.specs.CountLaws.{takes_none, takes_on, takes_within, later_none, later_on, rose_after}
+use Rattle.site_model.specs.Laws.Count.{takes_none, takes_on, takes_within, later_none, later_on, rose_after}
 use Rattle.shard_table.specs.Table.{Row}
 use Rattle.image_meaning.specs.Share.{share_of}
-use Rattle.store_jobs.specs.Plan.{Plan}
-use Rattle.store_jobs.specs.Plans.{Plans, Tries, ComesOn, IsLeft}
-use Rattle.store_jobs.specs.StepLaws.{runs_none, runs_more, runs_within, tries_more, tries_within}
+use Rattle.plan_steps.specs.Told.{ToldPlan}
+use Rattle.plan_steps.specs.AnyPlans.{Plans, Tries, ComesOn, IsLeft}
+use Rattle.store_jobs.specs.Laws.Step.{runs_none, runs_more, runs_within, tries_more, tries_within}
 use Rattle.job_steps.specs.declared.StepFault.{StepFault}
 use Rattle.job_steps.specs.declared.StepFault.TheVariants as step_fault
 use Rattle.job_steps.specs.Steps.{TakesSteps, CanStep, Went, HasStepCause, HasCauseWithin}
@@ -74,7 +74,7 @@ module _ (plans : Plans) (tells : Type 0) where
     pub can_again : CanStep plans tells r row old.files → CanStep plans tells s mid between.files
     can_again can = record {
       on_its_way = first.on.on_its_way;
-      told = λ is. subst (λ (p : Plan). plans.StandsAsTold s (share_of between.files p.volume)) (sym first.on.same_plan) ((first.runs is).told (can.told is));
+      told = λ is. subst (λ (p : ToldPlan). plans.StandsAsTold s (share_of between.files p.volume)) (sym first.on.same_plan) ((first.runs is).told (can.told is));
     }
 
     -- and if it fails, it is for a cause of the whole run
@@ -83,10 +83,10 @@ module _ (plans : Plans) (tells : Type 0) where
     cause_within before now after later (step_fault.Fault server) cause = rose_after (before.faults server) (now.faults server) (after.faults server) (later server) cause
     cause_within before now after later (step_fault.Unsound volume rule) cause = (
       record {
-        volume_is = cause.0.volume_is ∙ ap (λ (p : Plan). p.volume) first.on.same_plan;
+        volume_is = cause.0.volume_is ∙ ap (λ (p : ToldPlan). p.volume) first.on.same_plan;
         rule_is = cause.0.rule_is;
-        decodes = ap (λ (p : Plan). p.command) (sym first.on.same_plan) ∙ cause.0.decodes;
+        decodes = ap (λ (p : ToldPlan). p.command) (sym first.on.same_plan) ∙ cause.0.decodes;
       },
       λ is start follows. plans.unbroken s mid start (share_of between.files (plans.plan r).volume) ((first.runs is).follows start follows)
-          (subst (λ (p : Plan). plans.BreaksOff s (share_of between.files p.volume)) first.on.same_plan (cause.1 is)),
+          (subst (λ (p : ToldPlan). plans.BreaksOff s (share_of between.files p.volume)) first.on.same_plan (cause.1 is)),
     )

@@ -4,7 +4,7 @@
 ghost use Rattle.std.specs.Prelude.{◌≡◌, true, false, IsTrue, Some, None, Err, IfErr, if◌then◌else◌};
 ghost use Rattle.job_board.specs.Jobs.{IsOut, with_work, without, work_of};
 ghost use Rattle.job_steps.specs.Steps.{CanStep, Went, TakesSteps, HasCauseWithin};
-ghost use Rattle.store_jobs.specs.Plans.{Tries};
+ghost use Rattle.plan_steps.specs.AnyPlans.{Tries};
 ghost use Rattle.job_steps.specs.Stepping.{HasSlot};
 ghost use Rattle.job_steps.specs.declared.engine.Work.{Work};
 
@@ -22,7 +22,7 @@ pub enum Slot {
 }
 
 /// A plan that runs, and the slot that its end gives the volume.
-#[derive(Drop)]
+#[derive(Debug, Drop)]
 pub struct Work<P> {
     pub plan: P,
     pub after: Slot,

@@ -3,13 +3,18 @@
 
 ghost use Rattle.std.specs.Prelude.{IsTrue, IfOk, IfErr};
 ghost use Rattle.shard_table.specs.Table.{Row};
-ghost use Rattle.store_jobs.specs.Plans.{Plans, Tries};
+ghost use Rattle.plan_steps.specs.AnyPlans.{Plans, Tries};
 ghost use Rattle.job_steps.specs.Steps.{CanStep, Went, TakesSteps, HasStepCause, HasCauseWithin, has_ended};
 
+mod countdown;
 mod engine;
 
+pub use countdown::Countdown;
 pub use engine::{Engine, Halt, Slot, Work};
 use site_model::Site;
+
+#[cfg(test)]
+mod tests;
 
 /// Whether steps remain.
 #[derive(Clone, Copy, Debug, PartialEq, Eq)]

@@ -11,10 +11,10 @@ use Rattle.plan_steps.specs.declared.plan.Plan.{Plan}
 use Rattle.plan_steps.specs.Planned.{is_encode, joined, joined_index}
 use Rattle.plan_steps.specs.Plans.{IsPlan, IsPlanBy, IsEncodePlan}
 use Rattle.plan_steps.specs.Progressing.{Running, Follows}
-use Rattle.plan_steps.specs.EndLaws.{IsOver, end_temps}
+use Rattle.plan_steps.specs.Laws.End.{IsOver, end_temps}
 use Rattle.plan_steps.specs.DecodeEnd.{decode_alone, decode_exact, decode_super, decode_joins, decode_row}
 use Rattle.plan_steps.specs.EncodeEnd.{encode_coded, encode_tidy, encode_whole, encode_even, encode_row}
-use Rattle.store_jobs.specs.Ending.{EndsPlain, EndsCoded, EndsToldCoded, EndsBy}
+use Rattle.plan_steps.specs.Ending.{EndsPlain, EndsCoded, EndsToldCoded, EndsBy}
 use Rattle.plan_contract.specs.Following.{told, made_records}
 
 module _ (r : Running) (row : Row) (start now : Share) (follows : Follows r row start now) (over : IsOver r) where

@@ -18,12 +18,12 @@ use Rattle.plan_steps.specs.Planned.{deletions}
 use Rattle.plan_steps.specs.Legal.{FitsPlaces}
 use Rattle.plan_steps.specs.Runs.{StepKeeps}
 use Rattle.plan_steps.specs.Progressing.{Running, Follows}
-use Rattle.plan_steps.specs.ProgressLaws.{progress_firm}
-use Rattle.plan_steps.specs.UnderwayLaws.{progress_underway, step_underway}
-use Rattle.store_jobs.specs.Plan as store
+use Rattle.plan_steps.specs.Laws.Progress.{progress_firm}
+use Rattle.plan_steps.specs.Laws.Underway.{progress_underway, step_underway}
+use Rattle.plan_steps.specs.Told as store
 
 -- as much of a plan as the store reads
-abbrev pub told : Plan → store.Plan
+abbrev pub told : Plan → store.ToldPlan
 told plan = record { command = plan.command; volume = plan.volume; home = plan.home; info = plan.info; deleted = plan.deleted.items }
 
 -- the records that its decode makes of these files

@@ -10,7 +10,7 @@ use Rattle.world_model.specs.World.{Volume}
 use Rattle.file_names.specs.Names.{name_bytes}
 use Rattle.shard_table.specs.Table.{Row}
 use Rattle.image_meaning.specs.Files.{place_of}
-use Rattle.image_meaning.specs.CopyLaws.{temp_apart}
+use Rattle.image_meaning.specs.Laws.Copy.{temp_apart}
 use Rattle.image_meaning.specs.Share.{Share, share_of}
 use Rattle.plan_steps.specs.declared.plan.Stage.{Stage}
 use Rattle.plan_steps.specs.declared.plan.Stage.TheVariants as stage
@@ -18,7 +18,7 @@ use Rattle.plan_steps.specs.declared.plan.FileState.{FileState}
 use Rattle.plan_steps.specs.Kept.{Forms}
 use Rattle.plan_steps.specs.Legal.{FitsPlaces}
 use Rattle.plan_steps.specs.Progressing.{Running, IsNextPlace, FitsProgress}
-use Rattle.plan_steps.specs.ProgressLaws.{registering_keeps, registering_fits, removing_keeps, removing_fits, syncing_keeps, syncing_fits, growing_keeps, growing_fits, putting_keeps, putting_fits}
+use Rattle.plan_steps.specs.Laws.Progress.{registering_keeps, registering_fits, removing_keeps, removing_fits, syncing_keeps, syncing_fits, growing_keeps, growing_fits, putting_keeps, putting_fits}
 use Rattle.plan_run.specs.Finishing.{IsNamedFile, Keeps, Synced, Registers, Registered, Clears, Cleared}
 use Rattle.plan_run.specs.Writing.{Grown, Puts, Put}
 
@@ -28,6 +28,10 @@ some_is x y e = cc
 -- what was read at a place of the list is the file there
 pub file_is : (states : List FileState) (j : ℕ) (x s : FileState) → x ≡ get_or states j x → slice_get states j ≡ Some s → x ≡ s
 file_is states j x s read at = read ∙ get_or_from_slice_get states j s x at
+
+-- where a state that was read is changed, that of the file is
+pub told_at : (states : List FileState) (j : ℕ) (x : FileState) → x ≡ get_or states j x → (next : FileState → FileState) (s : FileState) → slice_get states j ≡ Some s → slice_set states j (next x) ≡ slice_set states j (next s)
+told_at states j x read next s at = ap (λ (z : FileState). slice_set states j (next z)) (file_is states j x s read at)
 
 -- the two names of a file differ
 pub names_differ : {volume servers : ℕ} {states : List FileState} {j : ℕ} {temp name : List ℕ} → volume < 2 ^ 32 → IsNamedFile volume servers states j temp name → name ≢ temp

@@ -1,18 +1,23 @@
 -- Whose faults a call on a plan's file tells.
 use Rattle.std.specs.Prelude.{◌≡◌, ℕ, List, slice_get, Some, Result, IsErr, IfErr}
-use Rattle.site_model.specs.Counts.{Counts, HasCause, HasWriteCause}
+use Rattle.site_model.specs.Counts.{Counts, HasWriteCause, CountsWrite, CallsAt}
 use Rattle.site_model.specs.declared.error.DeviceFault.{DeviceFault}
 use Rattle.plan_steps.specs.declared.plan.FileState.{FileState}
 
--- The faults of this server alone may have risen. Where the call failed they did, and the fault is the server's.
-pub record IsBlamed {A : Type 0} (server : ℕ) (result : Result A DeviceFault) (old new : Counts) : Type 0 where
-  pub cause : HasCause server old new (IsErr result)
+-- Calls at this server. Where the last failed, the fault is the server's.
+pub record IsBlamed {A S : Type 0} (counts : S → Counts) (count : S → ℕ) (server : ℕ) (result : Result A DeviceFault) (old new : S) : Type 0 where
+  pub runs : CallsAt counts count server old new (IsErr result)
   pub blame : IfErr result (λ fault. fault.server ≡ server)
 
--- the same, also of its faults in calls that write
-pub record IsBlamedForWriting {A : Type 0} (server : ℕ) (result : Result A DeviceFault) (old new : Counts) : Type 0 where
-  pub blamed : IsBlamed server result old new
-  pub write_cause : HasWriteCause server old new (IsErr result)
+-- the same of calls that write
+pub record IsBlamedForWriting {A S : Type 0} (counts : S → Counts) (count : S → ℕ) (server : ℕ) (result : Result A DeviceFault) (old new : S) : Type 0 where
+  pub blamed : IsBlamed counts count server result old new
+  pub write_cause : HasWriteCause server (counts old) (counts new) (IsErr result)
+
+-- One call at this server that writes so many bytes. Where it failed, the fault is the server's.
+pub record WritesAt {A : Type 0} (server width : ℕ) (result : Result A DeviceFault) (old new : Counts) : Type 0 where
+  pub counts : CountsWrite server width old new (IsErr result)
+  pub blame : IfErr result (λ fault. fault.server ≡ server)
 
 -- of the file at this place of the list
 abbrev pub AtFile : List FileState → ℕ → (ℕ → Type 0) → Type 0

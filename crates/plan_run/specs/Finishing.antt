@@ -1,5 +1,5 @@
 -- What it takes that a file of a plan is finished or goes, and what that leaves.
-use Rattle.std.specs.Prelude.{◌≡◌, ℕ, ◌<◌, Bool, true, false, List, length, slice_get, Some, IsSome}
+use Rattle.std.specs.Prelude.{◌≡◌, ℕ, ◌<◌, Bool, true, false, List, length, slice_get, slice_set, Some, IsSome}
 use Rattle.site_model.specs.Disk.{Files, Disk}
 use Rattle.world_model.specs.World.{Volume}
 use Rattle.file_names.specs.Names.{name_bytes}
@@ -7,6 +7,8 @@ use Rattle.shard_table.specs.Table.{Row}
 use Rattle.image_meaning.specs.Files.{place_of}
 use Rattle.image_meaning.specs.Share.{Share, share_of}
 use Rattle.plan_steps.specs.declared.plan.Plan.{Plan}
+use Rattle.plan_steps.specs.declared.plan.Progress.{Progress}
+use Rattle.plan_steps.specs.declared.plan.Stage.{Stage}
 use Rattle.plan_steps.specs.declared.plan.Stage.TheVariants as stage
 use Rattle.plan_steps.specs.declared.plan.FileState.{FileState}
 use Rattle.plan_steps.specs.Kept.{Forms}
@@ -23,6 +25,14 @@ pub record IsNamedFile (volume servers : ℕ) (states : List FileState) (j : ℕ
   pub server : file.server < servers
   pub temp : temp_name ≡ name_bytes (record { volume = volume; kind = file.kind; temp = true })
   pub final : final_name ≡ name_bytes (record { volume = volume; kind = file.kind; temp = false })
+
+abbrev pub at_stage : Stage → FileState → FileState
+at_stage now s = record s { stage = now }
+
+-- the file at this place of the list has another state, and nothing else of the progress
+pub record Tells (j : ℕ) (next : FileState → FileState) (old new : Progress) : Type 0 where
+  pub place : new.place ≡ old.place
+  pub files : (s : FileState) → slice_get old.files.items j ≡ Some s → new.files.items ≡ slice_set old.files.items j (next s)
 
 abbrev pub TempStands : Running → ℕ → Files → Type 0
 TempStands r j files = (s : FileState) → slice_get r.states j ≡ Some s → IsSome (files (place_of r.plan.volume s.server s.kind true))

@@ -15,6 +15,14 @@ use Rattle.plan_run.specs.Finishing.{FromFit}
 abbrev pub HasRoom : List FileState → ℕ → ℕ → Type 0
 HasRoom states j n = (s : FileState) → slice_get states j ≡ Some s → s.length + n < 2 ^ 64
 
+-- so many bytes more were written
+abbrev pub grown_by : ℕ → FileState → FileState
+grown_by n s = record s { length = s.length + n; stage = stage.Writing }
+
+-- the file was written whole, of so many bytes
+abbrev pub put_whole : ℕ → FileState → FileState
+put_whole n s = record s { length = n; stage = stage.Registered }
+
 -- After an append the files fit, where the piece is what follows in the bytes that are planned, once the place of the next
 -- record is right.
 abbrev pub Grown : Running → ℕ → List ℕ → Disk → Disk → Running → Type 0

@@ -1,9 +1,9 @@
 // The calls of a site by which a file of a plan is finished or goes.
-ghost use Rattle.std.specs.Prelude.{◌≡◌, IsTrue, OnOk};
+ghost use Rattle.std.specs.Prelude.{◌≡◌, IsTrue, OnOk, OnErr};
 ghost use Rattle.site_model.specs.Counts.{TakesCalls};
 ghost use Rattle.plan_steps.specs.Progressing.{running};
 ghost use Rattle.plan_run.specs.Faults.{AtFile, IsBlamed, IsBlamedForWriting};
-ghost use Rattle.plan_run.specs.Finishing.{IsNamedFile, TempStands, Keeps, Synced};
+ghost use Rattle.plan_run.specs.Finishing.{IsNamedFile, TempStands, Keeps, Synced, Tells, at_stage};
 ghost use Rattle.plan_run.specs.Finishing.{Registers, Registered, Clears, Cleared};
 
 use plan_steps::{Plan, Progress, Stage};
@@ -27,10 +27,11 @@ pub fn sync_file<T: Site>(
     ensures fits { OnOk result (IsTrue T.tells
         → Synced (running plan.now progress.old) at
         (T.disk site.old) (T.disk site.new) (running plan.now progress.new)) }
+    ensures state { OnOk result (Tells at (at_stage Stage.Synced) progress.old progress.new) }
+    ensures failed { OnErr result (progress.new ≡ progress.old) }
     ensures calls { TakesCalls 1 0 (T.counts site.old) (T.counts site.new) }
-    ensures cause { AtFile progress.old.files.items at
-        (λ server. IsBlamedForWriting server result (T.counts site.old) (T.counts site.new)) }
-    ensures servers { T.servers site.new ≡ T.servers site.old }
+    ensures runs { AtFile progress.old.files.items at
+        (λ server. IsBlamedForWriting T.counts T.servers server result site.old site.new) }
 {
     let server = progress.files[at].server;
     match site.sync(server, temp) {
@@ -59,10 +60,11 @@ pub fn register_file<T: Site>(
     ensures fits { OnOk result (IsTrue T.tells
         → Registered (running plan.now progress.old) at
         (T.disk site.old) (T.disk site.new) (running plan.now progress.new)) }
+    ensures state { OnOk result (Tells at (at_stage Stage.Registered) progress.old progress.new) }
+    ensures failed { OnErr result (progress.new ≡ progress.old) }
     ensures calls { TakesCalls 1 0 (T.counts site.old) (T.counts site.new) }
-    ensures cause { AtFile progress.old.files.items at
-        (λ server. IsBlamedForWriting server result (T.counts site.old) (T.counts site.new)) }
-    ensures servers { T.servers site.new ≡ T.servers site.old }
+    ensures runs { AtFile progress.old.files.items at
+        (λ server. IsBlamedForWriting T.counts T.servers server result site.old site.new) }
 {
     let server = progress.files[at].server;
     match site.rename(server, temp, name) {
@@ -90,10 +92,11 @@ pub fn clear_file<T: Site>(
     ensures fits { OnOk result (IsTrue T.tells
         → Cleared (running plan.now progress.old) at
         (T.disk site.old) (T.disk site.new) (running plan.now progress.new)) }
+    ensures state { OnOk result (Tells at (at_stage Stage.Gone) progress.old progress.new) }
+    ensures failed { OnErr result (progress.new ≡ progress.old) }
     ensures calls { TakesCalls 2 0 (T.counts site.old) (T.counts site.new) }
-    ensures cause { AtFile progress.old.files.items at
-        (λ server. IsBlamed server result (T.counts site.old) (T.counts site.new)) }
-    ensures servers { T.servers site.new ≡ T.servers site.old }
+    ensures runs { AtFile progress.old.files.items at
+        (λ server. IsBlamed T.counts T.servers server result site.old site.new) }
 {
     let server = progress.files[at].server;
     match clear(site, server, name) {

@@ -1,11 +1,11 @@
 // The calls of a site by which a file of a plan is written.
-ghost use Rattle.std.specs.Prelude.{◌≡◌, ◌<◌, ◌≤◌, ◌+◌, ◌^◌, IsTrue, OnOk, length};
-ghost use Rattle.site_model.specs.Counts.{TakesCalls};
-ghost use Rattle.whole_file.specs.Pieces.{pieces_of, widest_piece};
+ghost use Rattle.std.specs.Prelude.{◌≡◌, ◌<◌, ◌≤◌, ◌+◌, ◌^◌, IsTrue, OnOk, OnErr, length};
+ghost use Rattle.site_model.specs.Counts.{TakesCalls, widest_piece};
+ghost use Rattle.whole_file.specs.Pieces.{pieces_of};
 ghost use Rattle.plan_steps.specs.Progressing.{running};
-ghost use Rattle.plan_run.specs.Faults.{AtFile, IsBlamed, IsBlamedForWriting};
-ghost use Rattle.plan_run.specs.Finishing.{IsNamedFile, Keeps};
-ghost use Rattle.plan_run.specs.Writing.{HasRoom, Grown, Puts, Put};
+ghost use Rattle.plan_run.specs.Faults.{AtFile, IsBlamed, WritesAt};
+ghost use Rattle.plan_run.specs.Finishing.{IsNamedFile, Keeps, Tells};
+ghost use Rattle.plan_run.specs.Writing.{HasRoom, Grown, Puts, Put, grown_by, put_whole};
 
 use plan_steps::{FileState, Plan, Progress, Stage};
 use site_model::{DeviceFault, Site};
@@ -29,9 +29,11 @@ pub fn grow_file<T: Site>(
     ensures fits { OnOk result (IsTrue T.tells
         → Grown (running plan.now progress.old) at piece.now
         (T.disk site.old) (T.disk site.new) (running plan.now progress.new)) }
+    ensures state { OnOk result (Tells at (grown_by (length piece.now)) progress.old progress.new) }
+    ensures failed { OnErr result (progress.new ≡ progress.old) }
     ensures calls { TakesCalls 1 (length piece.now) (T.counts site.old) (T.counts site.new) }
-    ensures cause { AtFile progress.old.files.items at
-        (λ server. IsBlamedForWriting server result (T.counts site.old) (T.counts site.new)) }
+    ensures counts { AtFile progress.old.files.items at
+        (λ server. WritesAt server (length piece.now) result (T.counts site.old) (T.counts site.new)) }
     ensures servers { T.servers site.new ≡ T.servers site.old }
 {
     let file = progress.files[at];
@@ -69,11 +71,12 @@ pub fn put_file<T: Site>(
     ensures fits { OnOk result (IsTrue T.tells
         → Put (running plan.now progress.old) at bytes.now
         (T.disk site.old) (T.disk site.new) (running plan.now progress.new)) }
+    ensures state { OnOk result (Tells at (put_whole (length bytes.now)) progress.old progress.new) }
+    ensures failed { OnErr result (progress.new ≡ progress.old) }
     ensures calls { TakesCalls (pieces_of (length bytes.now) + 4) widest_piece
         (T.counts site.old) (T.counts site.new) }
-    ensures cause { AtFile progress.old.files.items at
-        (λ server. IsBlamed server result (T.counts site.old) (T.counts site.new)) }
-    ensures servers { T.servers site.new ≡ T.servers site.old }
+    ensures runs { AtFile progress.old.files.items at
+        (λ server. IsBlamed T.counts T.servers server result site.old site.new) }
 {
     let file = progress.files[at];
     match replace(site, file.server, name, temp, bytes) {

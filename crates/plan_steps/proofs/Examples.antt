@@ -18,7 +18,7 @@ use Rattle.needle_record.specs.Records.{records}
 use Rattle.shard_table.specs.Table.{Row}
 use Rattle.image_meaning.specs.Files.{VolumeFiles, max_servers, all_servers}
 use Rattle.image_meaning.specs.Plain.{IsExact}
-use Rattle.image_meaning.specs.PlainLaws.{IsAlone}
+use Rattle.image_meaning.specs.Laws.Plain.{IsAlone}
 use Rattle.image_meaning.specs.Sound.{Stands}
 use Rattle.image_meaning.specs.Ends.{HasNoFiles}
 use Rattle.image_meaning.specs.Meaning.{max_volumes}
@@ -27,11 +27,11 @@ use Rattle.image_meaning.specs.Share.{Share, share_of, finals, temps, IsFirmShar
 use Rattle.plan_steps.specs.declared.plan.Plan.{Plan}
 use Rattle.plan_steps.specs.declared.plan.FileState.{FileState}
 use Rattle.plan_steps.specs.Kept.{Forms, AreForms, IsKept}
-use Rattle.plan_steps.specs.KeptLaws.{kept_none_made}
+use Rattle.plan_steps.specs.Laws.Kept.{kept_none_made}
 use Rattle.plan_steps.specs.Planned.{is_encode}
 use Rattle.plan_steps.specs.Fitting.{AreStates}
 use Rattle.plan_steps.specs.Legal.{AreReadBack, BeginsPlan}
-use Rattle.plan_steps.specs.BeginLaws.{IsInitial, NamesFound, begin_fits, encode_begins}
+use Rattle.plan_steps.specs.Laws.Begin.{IsInitial, NamesFound, begin_fits, encode_begins}
 use Rattle.plan_steps.specs.Runs.{StepKeeps}
 use Rattle.plan_steps.specs.Order.{Names, names_of}
 use Rattle.plan_steps.specs.Lists.{is_target, shard_names, encode_names, list_by, list_of}

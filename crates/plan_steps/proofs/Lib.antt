@@ -1,2 +1,3 @@
 mod Examples
 pub mod Walked
+pub mod Rows

@@ -16,20 +16,20 @@ use Rattle.image_meaning.specs.Files.{VolumeFiles, max_servers, all_servers, has
 use Rattle.image_meaning.specs.Plain.{IsExact, index_home}
 use Rattle.image_meaning.specs.Coded.{dat_of}
 use Rattle.image_meaning.specs.Sound.{Stands}
-use Rattle.image_meaning.specs.PlainLaws.{IsAlone, lowest-all_fail}
-use Rattle.image_meaning.specs.PartLaws.{made_dat}
+use Rattle.image_meaning.specs.Laws.Plain.{IsAlone, lowest-all_fail}
+use Rattle.image_meaning.specs.Laws.Part.{made_dat}
 use Rattle.image_meaning.specs.HeldParts.{held_made}
 use Rattle.image_meaning.specs.Laws.Servers.{lowest-some}
 use Rattle.image_meaning.specs.Laws.Views.{index_named}
 use Rattle.image_meaning.specs.Share.{Share, finals, temps}
 use Rattle.plan_steps.specs.declared.plan.Plan.{Plan}
 use Rattle.plan_steps.specs.Kept.{Forms, IsKept, IsKeptCoded}
-use Rattle.plan_steps.specs.KeptLaws.{coded_where}
+use Rattle.plan_steps.specs.Laws.Kept.{coded_where}
 use Rattle.plan_steps.specs.Planned.{deletions, joined, joined_index, held, placed, is_at, is_found, is_found_coded}
 use Rattle.plan_steps.specs.Legal.{IsFound, IsNew, BeginsPlan}
 use Rattle.plan_steps.specs.Lists.{shard_names, left_names, decode_names, list_by, list_of}
 use Rattle.plan_steps.specs.Members.{Has, has_left, has_right, has_either, has_map, map_has, has_flat, flat_has, has_filter, filter_has, has_range, any_has, has_any}
-use Rattle.plan_steps.specs.EndLaws.{IsOver, end_new, end_stands, row_none}
+use Rattle.plan_steps.specs.Laws.End.{IsOver, end_new, end_stands, row_none}
 use Rattle.plan_steps.specs.Progressing.{Running, FitsProgress}
 
 module _ (plan : Plan) (decode : plan.command ≡ Decode) where

@@ -21,24 +21,24 @@ use Rattle.image_meaning.specs.Plain.{index_home}
 use Rattle.image_meaning.specs.Coded.{deleted_at, ratio_of}
 use Rattle.image_meaning.specs.Sound.{Stands, IsHolder}
 use Rattle.image_meaning.specs.Ends.{IsTidyCoded, IsWhole, IsEven}
-use Rattle.image_meaning.specs.PlainLaws.{lowest-all_fail}
-use Rattle.image_meaning.specs.PartLaws.{made_coded, made_ratio}
+use Rattle.image_meaning.specs.Laws.Plain.{lowest-all_fail}
+use Rattle.image_meaning.specs.Laws.Part.{made_coded, made_ratio}
 use Rattle.image_meaning.specs.HeldParts.{held_made}
 use Rattle.image_meaning.specs.Laws.CodedLoss.{any_range}
 use Rattle.image_meaning.specs.Laws.Views.{index_named}
 use Rattle.image_meaning.specs.Share.{Share, finals, temps}
 use Rattle.plan_steps.specs.declared.plan.Plan.{Plan}
 use Rattle.plan_steps.specs.Kept.{Forms, IsKeptCoded}
-use Rattle.plan_steps.specs.KeptLaws.{coded_where}
+use Rattle.plan_steps.specs.Laws.Kept.{coded_where}
 use Rattle.plan_steps.specs.Planned.{is_encode, is_found_plain, planned}
-use Rattle.plan_steps.specs.FoundLaws.{encode_finds}
+use Rattle.plan_steps.specs.Laws.Found.{encode_finds}
 use Rattle.plan_steps.specs.Legal.{IsFound, IsNew}
-use Rattle.plan_steps.specs.LegalLaws.{some_at}
+use Rattle.plan_steps.specs.Laws.Legal.{some_at}
 use Rattle.plan_steps.specs.Lists.{is_target, shard_names, encode_names, list_by, list_of}
 use Rattle.plan_steps.specs.Plans.{all_numbers, IsEncodePlan}
 use Rattle.plan_steps.specs.Members.{Has, has_left, has_right, has_either, has_map, map_has, has_filter, filter_has, has_range, range_has, any_has}
-use Rattle.plan_steps.specs.RoundLaws.{bool_same, bit_most, count_same, round_test, round_counts}
-use Rattle.plan_steps.specs.EndLaws.{IsOver, end_new, end_stands, end_none, row_homes}
+use Rattle.plan_steps.specs.Laws.Round.{bool_same, bit_most, count_same, round_test, round_counts}
+use Rattle.plan_steps.specs.Laws.End.{IsOver, end_new, end_stands, end_none, row_homes}
 use Rattle.plan_steps.specs.Progressing.{Running, FitsProgress}
 
 no_pairs : pairs [] ≡ []

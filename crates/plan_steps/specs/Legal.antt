@@ -120,14 +120,19 @@ pub record MayDropIndex (plan : Plan) (states : List FileState) (server : ℕ) :
   pub beside : (s i : ℕ) → i < max_shards → HasFile plan states s (Shard i) → HasBeside plan states s
   pub only : (s : ℕ) → s < max_servers → HasFile plan states s Idx → s ≡ server
 
--- A file may be removed: a shard that another server has by the table, the files beside where no shard stands, each of
--- them while an index stands, the index as above, and the data file without it.
+-- another server has the shard: the table names it, or it stands there by the list
+abbrev pub HasElsewhere : Plan → List FileState → Row → ℕ → ℕ → Type 0
+HasElsewhere plan states row server i =
+    (other : ℕ) × (other ≢ server) × ((place_in row i ≡ Some other) ⊎ ((other < max_servers) × (i < shards_in_all plan.info.geometry) × HasFile plan states other (Shard i)))
+
+-- A file may be removed: a shard that another server has, the files beside where no shard stands, each of them while an
+-- index stands, the index as above, and the data file without it.
 abbrev pub MayRemove : Plan → List FileState → Row → ℕ → Kind → Type 0
 MayRemove plan states row server Dat = HasFile plan states server Idx → ⊥
 MayRemove plan states row server Idx = MayDropIndex plan states server
 MayRemove plan states row server Cpd = ⊥
 MayRemove plan states row server Cpx = ⊥
-MayRemove plan states row server (Shard i) = HasAnIndex plan states ⊎ ((other : ℕ) × (place_in row i ≡ Some other) × (other ≢ server))
+MayRemove plan states row server (Shard i) = HasAnIndex plan states ⊎ HasElsewhere plan states row server i
 MayRemove plan states row server Ecx = HasAnIndex plan states ⊎ HasNoShard plan states server
 MayRemove plan states row server Ecj = HasAnIndex plan states ⊎ HasNoShard plan states server
 MayRemove plan states row server Vif = HasAnIndex plan states ⊎ HasNoShard plan states server

@@ -1,5 +1,5 @@
 -- What a plan and its progress answer to the questions which file may get its final name and which may go.
-use Rattle.std.specs.Prelude.{ℕ, ◌==◌, ◌&&◌, ◌||◌, not, Bool, true, false, List, [], ◌∷◌, Option, Some, None}
+use Rattle.std.specs.Prelude.{ℕ, ◌==◌, ◌&&◌, ◌||◌, not, ltb, Bool, true, false, List, [], ◌∷◌, Option, Some, None}
 use Rattle.std.specs.List.{list_any, list_all, range_with_len}
 use Rattle.file_names.specs.declared.Kind.{Kind}
 use Rattle.file_names.specs.declared.Kind.TheVariants.{Dat, Idx, Cpd, Cpx, Shard, Ecx, Ecj, Vif}
@@ -76,8 +76,20 @@ is_coded plan states = has_all_shards plan states && is_complete plan states
 unfoldable pub may_drop_index : Plan → List FileState → ℕ → Bool
 may_drop_index plan states server = is_encode plan.command && is_coded plan states && is_only_index plan states server
 
+-- the shard stands at a server other than this
+unfoldable pub has_shard_but : Plan → List FileState → ℕ → ℕ → ℕ → Bool
+has_shard_but plan states server i other = not (other == server) && has_file plan states other (Shard i)
+
+unfoldable pub stands_elsewhere : Plan → List FileState → ℕ → ℕ → Bool
+stands_elsewhere plan states server i = list_any (λ other. has_shard_but plan states server i other) (range_with_len 0 max_servers)
+
+-- the ratio has such a shard
+abbrev pub is_in_ratio : Plan → ℕ → Bool
+is_in_ratio plan i = ltb i (shards_in_all plan.info.geometry)
+
+-- a shard goes where another server has it, by the table or by the list
 unfoldable pub may_drop_shard : Plan → List FileState → Row → ℕ → ℕ → Bool
-may_drop_shard plan states row server i = has_an_index plan states || is_elsewhere (place_in row i) server
+may_drop_shard plan states row server i = has_an_index plan states || is_elsewhere (place_in row i) server || (is_in_ratio plan i && stands_elsewhere plan states server i)
 
 -- an index stands somewhere, or no shard there
 unfoldable pub is_bare : Plan → List FileState → ℕ → Bool

@@ -1,5 +1,5 @@
 -- The members of a list, by going through it.
-use Rattle.std.proofs.Common.{◌≡◌, ◌⊎◌, inl, inr, ⊎_elim, ℕ, zero, suc, ◌+◌, ◌<◌, ◌≤◌, Bool, true, false, cond, List, [], ◌∷◌, ◌++◌, map, Option, Some, None, refl, sym, ◌∙◌, ap, subst, arith}
+use Rattle.std.proofs.Common.{◌≡◌, ◌⊎◌, inl, inr, ⊎_elim, ℕ, zero, suc, ◌+◌, ◌<◌, ◌≤◌, Bool, true, false, cond, List, [], ◌∷◌, ◌++◌, length, map, Option, Some, None, refl, sym, ◌∙◌, ap, subst, arith}
 use Rattle.std.specs.Prelude.{◌||◌, ◌==◌, filter, flat_map, slice_get}
 use Rattle.std.specs.List.{list_any, range_with_len}
 use Rattle.std.proofs.lemmas.Bool.{cases_eq, eqb-true, eq-eqb, false≢true}
@@ -24,6 +24,26 @@ pub at_has : {A : Type 0} (xs : List A) (k : ℕ) (x : A) → slice_get xs k ≡
 at_has [] k x e = absurd (none_some e)
 at_has (y ∷ ys) zero x e = inl (some_is y x e)
 at_has (y ∷ ys) (suc k) x e = inr (at_has ys k x e)
+
+-- by their places in two lists
+pub get_front : {A : Type 0} (xs ys : List A) (k : ℕ) (x : A) → slice_get xs k ≡ Some x → (slice_get (xs ++ ys) k ≡ Some x) × (k < length xs)
+get_front [] ys k x e = absurd (none_some e)
+get_front (z ∷ xs) ys zero x e = (e, omega arith)
+get_front (z ∷ xs) ys (suc k) x e = let rest = get_front xs ys k x e in (rest.0, omega (arith, rest.1))
+
+pub get_behind : {A : Type 0} (xs ys : List A) (k : ℕ) → slice_get (xs ++ ys) (length xs + k) ≡ slice_get ys k
+get_behind [] ys k = let same : 0 + k ≡ k = omega arith in ap (slice_get ys) same
+get_behind (z ∷ xs) ys k =
+    let next : suc (length xs) + k ≡ suc (length xs + k) = omega arith in
+    ap (slice_get (z ∷ (xs ++ ys))) next ∙ get_behind xs ys k
+
+pub get_either : {A : Type 0} (xs ys : List A) (k : ℕ) (x : A) → slice_get (xs ++ ys) k ≡ Some x → (slice_get xs k ≡ Some x) ⊎ ((m : ℕ) × (k ≡ length xs + m) × (slice_get ys m ≡ Some x))
+get_either [] ys k x e = inr (k, omega arith, e)
+get_either (z ∷ xs) ys zero x e = inl e
+get_either (z ∷ xs) ys (suc k) x e = ⊎_elim
+    (λ here. inl here)
+    (λ there. inr (there.0, omega (arith, there.1), there.2))
+    (get_either xs ys k x e)
 
 -- of two lists
 pub has_left : {A : Type 0} (xs ys : List A) (x : A) → Has xs x → Has (xs ++ ys) x

@@ -4,10 +4,10 @@ use Rattle.world_model.specs.declared.types.Command.TheVariants.{Decode}
 use Rattle.file_names.specs.declared.Kind.{Kind}
 use Rattle.file_names.specs.declared.Kind.TheVariants.{Dat, Idx, Cpd, Cpx, Shard, Ecx, Ecj, Vif}
 use Rattle.stripe_layout.specs.Stripes.{shards_in_all}
-use Rattle.shard_table.specs.Table.{Row, place_in}
 use Rattle.image_meaning.specs.Files.{max_servers}
 use Rattle.plan_steps.specs.declared.plan.Plan.{Plan}
-use Rattle.plan_steps.specs.declared.plan.Stage.TheVariants.{Registered, Gone}
+use Rattle.plan_steps.specs.declared.plan.Stage.{Stage}
+use Rattle.plan_steps.specs.declared.plan.Stage.TheVariants.{Absent, Writing, Synced, Registered, Gone}
 use Rattle.plan_steps.specs.declared.plan.FileState.{FileState}
 use Rattle.plan_steps.specs.Planned.{is_encode}
 use Rattle.plan_steps.specs.Legal.{IsFound, IsNew}
@@ -19,11 +19,19 @@ Names = List (ℕ × Kind)
 abbrev pub names_of : List FileState → Names
 names_of states = map (λ s. (s.server, s.kind)) states
 
+-- the file was neither registered nor removed yet
+abbrev pub IsUnfinished : Stage → Type 0
+IsUnfinished Absent = Unit {0}
+IsUnfinished Writing = Unit {0}
+IsUnfinished Synced = Unit {0}
+IsUnfinished Registered = ⊥
+IsUnfinished Gone = ⊥
+
 -- The files before this place of the list are finished, and no later one is.
 pub record IsReached (plan : Plan) (states : List FileState) (j : ℕ) : Type 0 where
   pub written : (k : ℕ) (s : FileState) → slice_get states k ≡ Some s → k < j → IsNew plan s.server s.kind → s.stage ≡ Registered
   pub removed : (k : ℕ) (s : FileState) → slice_get states k ≡ Some s → k < j → IsFound plan s.server s.kind → s.stage ≡ Gone
-  pub waiting : (k : ℕ) (s : FileState) → slice_get states k ≡ Some s → j ≤ k → IsNew plan s.server s.kind → s.stage ≢ Registered
+  pub waiting : (k : ℕ) (s : FileState) → slice_get states k ≡ Some s → j ≤ k → IsNew plan s.server s.kind → IsUnfinished s.stage
   pub staying : (k : ℕ) (s : FileState) → slice_get states k ≡ Some s → j ≤ k → IsFound plan s.server s.kind → s.stage ≡ Registered
 
 -- ---- what is known of a place by the names alone
@@ -70,13 +78,18 @@ pub record IsAfterShards (plan : Plan) (names : Names) (j server : ℕ) : Type 0
   pub found_here : (s : ℕ) → IsFound plan s Idx → s ≡ server
   pub listed_here : (k s : ℕ) → slice_get names k ≡ Some (s, Idx) → s ≡ server
 
--- what a file that is removed waits for, where the table has these places
-abbrev pub WaitsToGo : Plan → Names → Row → ℕ → ℕ → Kind → Type 0
-WaitsToGo plan names row j server Dat = (k : ℕ) × (k < j) × (slice_get names k ≡ Some (server, Idx)) × IsFound plan server Idx
-WaitsToGo plan names row j server Idx = IsAfterShards plan names j server
-WaitsToGo plan names row j server Cpd = ⊥
-WaitsToGo plan names row j server Cpx = ⊥
-WaitsToGo plan names row j server (Shard i) = HasIndexBefore plan names j ⊎ ((other : ℕ) × (place_in row i ≡ Some other) × (other ≢ server))
-WaitsToGo plan names row j server Ecx = HasIndexBefore plan names j
-WaitsToGo plan names row j server Ecj = HasIndexBefore plan names j
-WaitsToGo plan names row j server Vif = HasIndexBefore plan names j
+-- another server has the shard before this place
+abbrev pub IsElsewhereBefore : Plan → Names → ℕ → ℕ → ℕ → Type 0
+IsElsewhereBefore plan names j server i =
+    (other : ℕ) × (other ≢ server) × (other < max_servers) × (i < shards_in_all plan.info.geometry) × IsBefore plan names j other (Shard i)
+
+-- what a file that is removed waits for
+abbrev pub WaitsToGo : Plan → Names → ℕ → ℕ → Kind → Type 0
+WaitsToGo plan names j server Dat = (k : ℕ) × (k < j) × (slice_get names k ≡ Some (server, Idx)) × IsFound plan server Idx
+WaitsToGo plan names j server Idx = IsAfterShards plan names j server
+WaitsToGo plan names j server Cpd = ⊥
+WaitsToGo plan names j server Cpx = ⊥
+WaitsToGo plan names j server (Shard i) = HasIndexBefore plan names j ⊎ IsElsewhereBefore plan names j server i
+WaitsToGo plan names j server Ecx = HasIndexBefore plan names j
+WaitsToGo plan names j server Ecj = HasIndexBefore plan names j
+WaitsToGo plan names j server Vif = HasIndexBefore plan names j

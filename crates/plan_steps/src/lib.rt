@@ -6,7 +6,15 @@
 #![tactic(auto)]
 
 mod found;
+mod legal;
+#[cfg(test)]
+mod list_tests;
+mod listing;
 mod may;
+mod next;
+#[cfg(test)]
+mod next_tests;
+mod pieces;
 mod plan;
 mod step;
 #[cfg(test)]

@@ -7,6 +7,7 @@ ghost use Rattle.plan_steps.specs.Fitting.{AreStates};
 ghost use Rattle.plan_steps.specs.Legal.{MayRegister, MayRemove};
 ghost use Rattle.plan_steps.specs.May.{has_all_shards, has_an_index, has_beside, has_no_index_but, has_shard};
 ghost use Rattle.plan_steps.specs.May.{has_some_shard, is_bare, is_coded, is_complete, is_complete_at, is_elsewhere};
+ghost use Rattle.plan_steps.specs.May.{has_shard_but, is_in_ratio, stands_elsewhere};
 ghost use Rattle.plan_steps.specs.May.{is_only_index, may_drop_index, may_drop_shard, may_register, may_remove};
 ghost use Rattle.file_names.specs.Names.{IsKind};
 ghost use Rattle.shard_table.specs.Table.{room, row_of};
@@ -63,7 +64,7 @@ impl Plan {
     }
 
     /// Whether a file that is ready may get its final name.
-    #[tactic(auto, using(crate::specs::MayLaws::may_register_holds))]
+    #[tactic(auto, using(crate::specs::Laws::May::may_register_holds))]
     pub fn may_register(&self, progress: &Progress, server: u32, kind: Kind) -> bool
         ensures test { result ≡ may_register self.now progress.now.files.items server kind }
         ensures may { AreStates progress.now.files.items → IsTrue result
@@ -82,7 +83,7 @@ impl Plan {
         }
     }
 
-    fn is_encode(&self) -> bool
+    pub(crate) fn is_encode(&self) -> bool
         ensures { result ≡ is_encode self.now.command }
     {
         match self.command {
@@ -145,6 +146,27 @@ impl Plan {
         self.is_encode() && self.is_coded(progress) && self.is_only_index(progress, server)
     }
 
+    #[tactic(auto, unfolding(crate::specs::May::has_shard_but))]
+    fn has_shard_but(&self, progress: &Progress, server: u32, shard: u8, other: u32) -> bool
+        ensures { result ≡ has_shard_but self.now progress.now.files.items server shard other }
+    {
+        other != server && self.has_file(progress, other, Kind::Shard(shard))
+    }
+
+    /// Whether the shard stands at another server.
+    #[tactic(auto, unfolding(crate::specs::May::stands_elsewhere))]
+    pub fn stands_elsewhere(&self, progress: &Progress, server: u32, shard: u8) -> bool
+        ensures { result ≡ stands_elsewhere self.now progress.now.files.items server shard }
+    {
+        (0..MAX_SERVERS).any(|other| self.has_shard_but(progress, server, shard, other))
+    }
+
+    fn is_in_ratio(&self, shard: u8) -> bool
+        ensures { result ≡ is_in_ratio self.now shard }
+    {
+        shard < self.info.geometry.ratio.shard_count()
+    }
+
     #[tactic(auto, unfolding(crate::specs::May::may_drop_shard))]
     fn may_drop_shard(
         &self,
@@ -157,7 +179,9 @@ impl Plan {
         ensures { result ≡ may_drop_shard self.now progress.now.files.items
             (row_of table.now self.now.volume) server shard }
     {
-        self.has_an_index(progress) || is_elsewhere(table.place(self.volume, shard), server)
+        self.has_an_index(progress)
+            || is_elsewhere(table.place(self.volume, shard), server)
+            || (self.is_in_ratio(shard) && self.stands_elsewhere(progress, server, shard))
     }
 
     #[tactic(auto, unfolding(crate::specs::May::is_bare))]
@@ -168,7 +192,7 @@ impl Plan {
     }
 
     /// Whether a file may be removed, where the table has these places.
-    #[tactic(auto, using(crate::specs::MayLaws::may_remove_holds))]
+    #[tactic(auto, using(crate::specs::Laws::May::may_remove_holds))]
     pub fn may_remove(
         &self,
         progress: &Progress,

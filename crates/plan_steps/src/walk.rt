@@ -8,7 +8,7 @@ ghost use Rattle.plan_steps.specs.Walk.{is_registered, is_registered_at, place_o
 use crate::{FileState, Plan, Progress, Stage};
 use file_names::Kind;
 
-fn same_kind(a: Kind, b: Kind) -> bool
+pub(crate) fn same_kind(a: Kind, b: Kind) -> bool
     ensures { result ≡ same_kind a b }
 {
     a == b

@@ -12,14 +12,14 @@ use Rattle.job_board.specs.Jobs.{IsBoard, has_volume, with_job, with_work, witho
 use Rattle.image_meaning.specs.Files.{contents}
 use Rattle.image_meaning.specs.Meaning.{max_volumes}
 use Rattle.image_meaning.specs.Share.{Share, share_of}
-use Rattle.store_jobs.specs.Plan.{Plan}
-use Rattle.store_jobs.specs.Plans.{Plans, Runs}
+use Rattle.plan_steps.specs.Told.{ToldPlan}
+use Rattle.plan_steps.specs.AnyPlans.{Plans, Runs}
 use Rattle.store_jobs.specs.Store.{Work, Store, FitsWork, Fits, job_in, store_world}
-use Rattle.store_jobs.specs.BoardLaws.{started_work, started_others, started_number, started_numbers, all_in_behind}
+use Rattle.store_jobs.specs.Laws.Board.{started_work, started_others, started_number, started_numbers, all_in_behind}
 use Rattle.store_jobs.specs.BoardWorld.{HasWorkOf, work_there, number_given, job_there, given_there, given_others, given_number, given_numbers, given_jobs, given_all_in, finished_there, finished_others, finished_number, finished_numbers, finished_jobs, finished_all_in, started_jobs, free_there}
-use Rattle.store_jobs.specs.LineLaws.{may_start}
+use Rattle.store_jobs.specs.Laws.Line.{may_start}
 use Rattle.shell_jobs.specs.Progress.{left_of}
-use Rattle.shell_jobs.specs.KeepsLaws.{StepsJob, GoesOn, Ends, Starts}
+use Rattle.shell_jobs.specs.Laws.Keeps.{StepsJob, GoesOn, Ends, Starts}
 
 module _ (plans : Plans) (before after : Store plans) (servers : ℕ) (base : ℕ → Share) where
   left_as : (w : Option (Work plans)) (n : ℕ) → work_of after.board.unfinished n ≡ w → left_of plans after.board.unfinished n ≡ option_map_or (λ (work : Work plans). plans.left work.running) w 0
@@ -65,7 +65,7 @@ module _ (plans : Plans) (before after : Store plans) (servers : ℕ) (base : �
         record {
           slots = slots;
           there = given_there plans before.board n v work fits.board has after.board moved given;
-          jobs = given_jobs plans before.board n v work fits.board has after.board moved given (ap (λ (p : Plan). p.command) run.same_plan);
+          jobs = given_jobs plans before.board n v work fits.board has after.board moved given (ap (λ (p : ToldPlan). p.command) run.same_plan);
           left = omega (
             arith,
             left,

@@ -1,5 +1,4 @@
 pub mod Progress
-pub mod KeepsLaws
 pub mod BoardSteps
-pub mod EndLaws
 pub mod Sample
+pub mod Laws

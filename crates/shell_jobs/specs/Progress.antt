@@ -13,10 +13,10 @@ use Rattle.job_board.specs.declared.Job.{Job}
 use Rattle.job_board.specs.Jobs.{work_of}
 use Rattle.image_meaning.specs.Files.{contents, files_of}
 use Rattle.image_meaning.specs.Meaning.{max_volumes}
-use Rattle.image_meaning.specs.Share.{Share, finals, IsSettled}
+use Rattle.image_meaning.specs.Share.{Share, finals, AreSharesSettled}
 use Rattle.image_meaning.specs.Near.{IsLeftBy}
 use Rattle.image_meaning.specs.Shards.{ShardsSo}
-use Rattle.store_jobs.specs.Plans.{Plans}
+use Rattle.plan_steps.specs.AnyPlans.{Plans}
 use Rattle.store_jobs.specs.Store.{Work, Store, work_at, Fits, IsFirmBase, store_world}
 
 -- what a run begins with
@@ -67,7 +67,7 @@ module _ (plans : Plans) where
   pub record Knows (begin : Begin) (replies : List Reply) (store : Store plans) (files : Files) : Type 0 where
     pub base : ℕ → Share
     pub fits : Fits plans store begin.servers files base
-    pub firm : IsSettled begin.opening → IsFirmBase base
+    pub firm : AreSharesSettled begin.opening → IsFirmBase base
     pub commands : ℕ → List Command
     pub so_far : (v : ℕ) → v < max_volumes → accepted_on v begin.lines replies ≡ commands v ++ commands_of (work_at plans store.board.unfinished v)
     pub shards : (v : ℕ) → v < max_volumes → ShardsSo begin.servers (files_of (contents begin.opening) v) (finals (base v)) (commands v)

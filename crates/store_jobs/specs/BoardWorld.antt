@@ -10,10 +10,10 @@ use Rattle.world_model.specs.Moves.{has_job, job_at}
 use Rattle.job_board.specs.declared.Job.{Job}
 use Rattle.job_board.specs.Jobs.{Jobs, InOrder, IsBoard, has_number, has_volume, set_work, volume_for, with_job, with_work, without, work_of}
 use Rattle.image_meaning.specs.Jobs.{AreInOrder, HasJobs}
-use Rattle.store_jobs.specs.Plans.{Plans}
+use Rattle.plan_steps.specs.AnyPlans.{Plans}
 use Rattle.store_jobs.specs.Store.{Work, Store, work_at, command_in, job_in, store_world}
-use Rattle.store_jobs.specs.LineLaws.{found_job, found_at}
-use Rattle.store_jobs.specs.BoardLaws.{SameTests, found_all, found_work, map_filter, same_tests, work_of_set, work_of_set_others, work_of_without, work_of_without_others, work_on_number, work_set, work_set_others, work_without, work_without_others, all_in_set, all_in_without}
+use Rattle.store_jobs.specs.Laws.Line.{found_job, found_at}
+use Rattle.store_jobs.specs.Laws.Board.{SameTests, found_all, found_work, map_filter, same_tests, work_of_set, work_of_set_others, work_of_without, work_of_without_others, work_on_number, work_set, work_set_others, work_without, work_without_others, all_in_set, all_in_without}
 
 module _ (plans : Plans) where
   -- ---- numbers and volumes

@@ -1,15 +1,5 @@
-pub mod Plan
-pub mod Ending
-pub mod Reading
 pub mod Slots
-pub mod Plans
 pub mod Making
 pub mod Store
-pub mod RestLaws
-pub mod TidyLaws
-pub mod ReadLaws
-pub mod ChangeLaws
-pub mod StepLaws
-pub mod LineLaws
-pub mod BoardLaws
 pub mod BoardWorld
+pub mod Laws

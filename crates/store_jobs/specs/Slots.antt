@@ -9,13 +9,13 @@ use Rattle.needle_record.specs.Records.{Placed, Index, index_of}
 use Rattle.stripe_layout.specs.declared.Info.{Info}
 use Rattle.image_meaning.specs.Files.{VolumeFiles}
 use Rattle.image_meaning.specs.Plain.{IsExact}
-use Rattle.image_meaning.specs.PlainLaws.{IsAlone}
+use Rattle.image_meaning.specs.Laws.Plain.{IsAlone}
 use Rattle.image_meaning.specs.Meaning.{mode_of}
 use Rattle.image_meaning.specs.Sound.{HasOneRatio, IsCoded, IsSoundCoded}
 use Rattle.image_meaning.specs.Ends.{HasNoFiles, IsTidyCoded}
 use Rattle.image_meaning.specs.Share.{Share, finals, temps}
 use Rattle.image_meaning.specs.Outlasts.{HasDeleted}
-use Rattle.store_jobs.specs.Ending.{HasPlaces, HasNoPlaces}
+use Rattle.plan_steps.specs.Ending.{HasPlaces, HasNoPlaces}
 
 -- a plain volume in memory
 pub record DatVolume : Type 0 where

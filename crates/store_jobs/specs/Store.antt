@@ -16,9 +16,9 @@ use Rattle.image_meaning.specs.Share.{Share, share_of, IsFirmShare}
 use Rattle.needle_record.specs.Records.{Placed}
 use Rattle.shard_table.specs.Table.{Row}
 use Rattle.store_jobs.specs.Slots.{Slot, marked_by, FitsSlot, IsRowOf}
-use Rattle.store_jobs.specs.Plan.{Plan}
-use Rattle.store_jobs.specs.Reading.{IsGoing}
-use Rattle.store_jobs.specs.Plans.{Plans}
+use Rattle.plan_steps.specs.Told.{ToldPlan}
+use Rattle.plan_steps.specs.Reading.{IsGoing}
+use Rattle.plan_steps.specs.AnyPlans.{Plans}
 use Rattle.store_jobs.specs.Making.{Makes}
 
 -- nothing was pending when the jobs began
@@ -43,7 +43,7 @@ module _ (plans : Plans) where
   work_at jobs v = option_and_then (λ (job : Job Work). job.work) (find (has_volume v) jobs)
 
   -- what the plan says of itself, and the records that its decode makes of the files that it began with
-  abbrev pub plan_of : Work → Plan
+  abbrev pub plan_of : Work → ToldPlan
   plan_of work = plans.plan work.running
 
   abbrev pub records_of : Work → Share → List Placed

@@ -1,5 +1,8 @@
+use Rattle.std.proofs.Common.{refl}
+use Rattle.plan_steps.specs.declared.plan.Stage.TheVariants as stage
+use Rattle.plan_run.specs.Finishing.{at_stage}
 use Rattle.plan_steps.specs.Progressing.{running}
-use Rattle.plan_run.proofs.Finished.{sync_keeps, sync_fits}
+use Rattle.plan_run.proofs.Finished.{told_at, sync_keeps, sync_fits}
 use Rattle.plan_run.proofs.finishing.sync_file.Goals as goal
 
 pub returns-in-Ok-clause-keeps : goal.returns-in-Ok-clause-keeps
@@ -16,3 +19,9 @@ pub returns-in-Ok-clause-fits : goal.returns-in-Ok-clause-fits
 returns-in-Ok-clause-fits g c = λ told.
     sync_fits (running c.args.plan.now c.args.progress.now) (g.T.Site.servers c.args.site.now) c.args.at c.args.temp.now c.args.name.now c.requires.file c.index.result.now c.index.ensures
     (g.T.Site.disk c.args.site.now) (g.T.Site.disk c.sync.new.self) (c.sync.ensures.effect told) (c.in-Ok.ensures.done told) c.index_mut.result.now c.index_mut.ensures.value
+
+pub returns-in-Ok-clause-state : goal.returns-in-Ok-clause-state
+returns-in-Ok-clause-state g c = record {
+  place = refl;
+  files = told_at c.args.progress.now.files.items c.args.at c.index_mut.result.now c.index_mut.ensures.value (at_stage stage.Synced);
+}

@@ -1,5 +1,7 @@
+use Rattle.std.proofs.Common.{length, refl}
+use Rattle.plan_run.specs.Writing.{grown_by}
 use Rattle.plan_steps.specs.Progressing.{running}
-use Rattle.plan_run.proofs.Finished.{grow_keeps, grow_fits}
+use Rattle.plan_run.proofs.Finished.{told_at, grow_keeps, grow_fits}
 use Rattle.plan_run.proofs.writing.grow_file.Goals as goal
 
 pub returns-in-Ok-clause-keeps : goal.returns-in-Ok-clause-keeps
@@ -16,3 +18,9 @@ pub returns-in-Ok-clause-fits : goal.returns-in-Ok-clause-fits
 returns-in-Ok-clause-fits g c = λ told.
     grow_fits (running c.args.plan.now c.args.progress.now) (g.T.Site.servers c.args.site.now) c.args.at c.args.temp.now c.args.name.now c.requires.file c.index-file.result.now c.index-file.ensures
     (g.T.Site.disk c.args.site.now) (g.T.Site.disk c.append.new.self) c.args.piece.now (c.append.ensures.effect told) (c.in-Ok.ensures.done told)
+
+pub returns-in-Ok-clause-state : goal.returns-in-Ok-clause-state
+returns-in-Ok-clause-state g c = record {
+  place = refl;
+  files = told_at c.args.progress.now.files.items c.args.at c.index-file.result.now c.index-file.ensures (grown_by (length c.args.piece.now));
+}

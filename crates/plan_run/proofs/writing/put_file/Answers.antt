@@ -1,5 +1,7 @@
+use Rattle.std.proofs.Common.{length, refl}
+use Rattle.plan_run.specs.Writing.{put_whole}
 use Rattle.plan_steps.specs.Progressing.{running}
-use Rattle.plan_run.proofs.Finished.{put_keeps, put_fits, names_differ}
+use Rattle.plan_run.proofs.Finished.{told_at, put_keeps, put_fits, names_differ}
 use Rattle.plan_run.proofs.writing.put_file.Goals as goal
 
 pub replace-requires-clause-differ : goal.replace-requires-clause-differ
@@ -19,3 +21,9 @@ pub returns-in-Ok-clause-fits : goal.returns-in-Ok-clause-fits
 returns-in-Ok-clause-fits g c = λ told.
     put_fits (running c.args.plan.now c.args.progress.now) (g.T.Site.servers c.args.site.now) c.args.at c.args.temp.now c.args.name.now c.requires.file c.index-file.result.now c.index-file.ensures
     (g.T.Site.disk c.args.site.now) (g.T.Site.disk c.replace.new.site) c.args.bytes.now (c.replace.ensures.effect told) (c.in-Ok.ensures.done told)
+
+pub returns-in-Ok-clause-state : goal.returns-in-Ok-clause-state
+returns-in-Ok-clause-state g c = record {
+  place = refl;
+  files = told_at c.args.progress.now.files.items c.args.at c.index-file.result.now c.index-file.ensures (put_whole (length c.args.bytes.now));
+}

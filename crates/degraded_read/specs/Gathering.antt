@@ -26,7 +26,8 @@ OnServers servers row = (i s : ℕ) → place_in row i ≡ Some s → s < server
 
 -- each shard in the row reaches so far
 abbrev pub HoldRange : Files → ℕ → Row → ℕ → Type 0
-HoldRange files volume row end = (i s : ℕ) → place_in row i ≡ Some s → end ≤ length (bytes_of (files (s, shard_name volume i)))
+HoldRange files volume row end = (i s : ℕ) → place_in row i ≡ Some s
+    → end ≤ length (bytes_of (files (s, shard_name volume i)))
 
 -- ---- counts of faults
 
@@ -58,22 +59,27 @@ reads_of row i = if stands_in row i then 1 else 0
 
 -- ---- what was read
 
--- Of the first shards of a row these were read, from a place on, one piece behind the other, since the counts were `old`.
+-- These shards' bytes from a place on stand in the room, one piece behind the other.
+abbrev pub HasPieces : Files → ℕ → Row → ℕ → ℕ → List ℕ → List ℕ → Type 0
+HasPieces files volume row at size have room = (n : ℕ) → n < length have → (i : ℕ) → i < size
+    → slice_index room (n * size + i) ≡ slice_index (shard_at files volume row (slice_index have n)) (at + i)
+
+-- Of the first shards of a row these were read, since the counts were `old`.
 pub record HasGathered (tells : Type 0) (files : Files) (volume : ℕ) (row : Row) (at size : ℕ) (old now : Counts) (shard : ℕ) (have : List ℕ) (failed : Option ℕ) (room : List ℕ) : Type 0 where
   pub below : AllByRecursion (λ j. j < shard) have
   pub distinct : AreDistinct have
   pub placed : AllByRecursion (λ j. stands_in row j ≡ true) have
-  pub pieces : tells → (n : ℕ) → n < length have → (i : ℕ) → i < size → slice_index room (n * size + i) ≡ slice_index (shard_at files volume row (slice_index have n)) (at + i)
+  pub pieces : tells → HasPieces files volume row at size have room
   pub no_more : reliable row old now shard ≤ length have
   pub all_read : failed ≡ None → have ≡ filter (stands_in row) (range_with_len 0 shard)
 
--- Of n shards k were read, the lowest ones where none failed, or all were tried that stand and fewer than k of them stand on servers whose count
--- didn't rise.
+-- Of n shards k were read, the lowest ones where none failed, or all were tried that stand and fewer than k of them
+-- stand on servers whose count didn't rise.
 pub record HasEnough (k n : ℕ) (tells : Type 0) (files : Files) (volume : ℕ) (row : Row) (at size : ℕ) (old now : Counts) (have : List ℕ) (failed : Option ℕ) (room : List ℕ) : Type 0 where
   pub below : AllByRecursion (λ j. j < n) have
   pub distinct : AreDistinct have
   pub placed : AllByRecursion (λ j. stands_in row j ≡ true) have
-  pub pieces : tells → (p : ℕ) → p < length have → (i : ℕ) → i < size → slice_index room (p * size + i) ≡ slice_index (shard_at files volume row (slice_index have p)) (at + i)
+  pub pieces : tells → HasPieces files volume row at size have room
   pub lowest : failed ≡ None → have ≡ take (length have) (standing_in row n)
   pub few : length have < k → reliable row old now n < k
   pub some_failed : length have < k → k ≤ length (standing_in row n) → IsSome failed

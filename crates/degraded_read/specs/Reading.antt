@@ -2,7 +2,7 @@
 use Rattle.std.proofs.Common.{sym, subst}
 use Rattle.std.specs.Prelude.{◌≡◌, ℕ, ◌+◌, ◌<◌, ◌≤◌, List, length, slice_index, Some, IsSome}
 use Rattle.site_model.specs.Disk.{Files, bytes_of}
-use Rattle.site_model.specs.Counts.{Counts, Rose}
+use Rattle.site_model.specs.Counts.{Counts}
 use Rattle.world_model.specs.declared.types.Ratio.{Ratio}
 use Rattle.world_model.specs.Ratios.{data_count, parity_count}
 use Rattle.rs_code.specs.Codeword.{IsCodeword, value_through}
@@ -34,7 +34,8 @@ pub record AreOneCode (r : Ratio) (files : VolumeFiles) (n : ℕ) : Type 0 where
 
 -- The bytes are those of a shard from a place on, by the codewords of the lowest standing shards.
 abbrev pub IsPart : Ratio → VolumeFiles → ℕ → ℕ → List ℕ → Type 0
-IsPart r files shard at out = (i : ℕ) → i < length out → slice_index out i ≡ value_through (known_at r files (at + i)) shard
+IsPart r files shard at out = (i : ℕ) → i < length out
+    → slice_index out i ≡ value_through (known_at r files (at + i)) shard
 
 -- ---- a read by the text of the volume
 
@@ -52,22 +53,25 @@ HasEnoughShards info row = data_count info.geometry.ratio ≤ shards_standing in
 
 -- fewer than give the others stand on servers whose faults didn't rise
 abbrev pub HasFewReliable : Info → Row → Counts → Counts → Type 0
-HasFewReliable info row old new = reliable row old new (shards_in_all info.geometry) < data_count info.geometry.ratio
+HasFewReliable info row old new =
+    reliable row old new (shards_in_all info.geometry) < data_count info.geometry.ratio
 
--- The server's faults rose, and fewer shards than give the others stand on servers whose faults didn't rise.
-pub record BlamesFew (info : Info) (row : Row) (old new : Counts) (server : ℕ) : Type 0 where
-  pub rose : Rose (old.faults server) (new.faults server)
-  pub few : HasFewReliable info row old new
+-- the shards that stand are of one code
+abbrev pub HasOneCode : Files → ℕ → Info → Type 0
+HasOneCode files volume info =
+    AreOneCode info.geometry.ratio (files_of (contents files) volume) (shard_length info.geometry info.dat_size)
 
--- Where the shards that stand are of one code, the bytes are those of the shard from a place on.
+-- Where they are, the bytes are those of the shard from a place on.
 abbrev pub GivesPart : Files → ℕ → Info → ℕ → ℕ → List ℕ → Type 0
-GivesPart files volume info shard at out = AreOneCode info.geometry.ratio (files_of (contents files) volume) (shard_length info.geometry info.dat_size)
+GivesPart files volume info shard at out = HasOneCode files volume info
     → IsPart info.geometry.ratio (files_of (contents files) volume) shard at out
 
 -- where the striped shards of a volume stand, they are of one code
-pub code_of_stripes : (files : VolumeFiles) (info : Info) → volume_info files ≡ Some info → HasStripes files info → AreOneCode info.geometry.ratio files (shard_length info.geometry info.dat_size)
+pub code_of_stripes : (files : VolumeFiles) (info : Info) → volume_info files ≡ Some info → HasStripes files info
+    → AreOneCode info.geometry.ratio files (shard_length info.geometry info.dat_size)
 code_of_stripes files info e stripes = record {
   shards = stripes.shards;
   stand = record { each = stripes.each };
-  columns = λ p h. stripes.striped.columns p (subst (λ n. p < shard_length info.geometry n) (sym (length-dat_of files info e)) h);
+  columns = λ p h.
+      stripes.striped.columns p (subst (λ n. p < shard_length info.geometry n) (sym (length-dat_of files info e)) h);
 }

@@ -2,7 +2,7 @@
 ghost use Rattle.std.specs.Prelude.{◌≡◌, ◌⊎◌, ◌<◌, ◌≤◌, ◌+◌, ◌*◌, IsTrue, Some, None, length, map, take, IsErr, OnOk, slice_index, ℕ};
 ghost use Rattle.std.specs.String.{string_bytes};
 ghost use Rattle.site_model.specs.Disk.{bytes_of};
-ghost use Rattle.site_model.specs.Counts.{Counts, CountsRead, IsLater, TakesCalls};
+ghost use Rattle.site_model.specs.Counts.{Counts, Calls, CountsRead, IsLater, TakesCalls, widest_piece};
 ghost use Rattle.world_model.specs.Ratios.{data_count, parity_count};
 ghost use Rattle.degraded_read.specs.Gathering.{AreNames, HasEnough, HasGathered, HoldRange, IsBlamed, OnServers, reads_of, standing_in};
 
@@ -34,6 +34,7 @@ pub(crate) fn gather<T: Site>(
     requires names { AreNames volume (map string_bytes names.now) }
     requires servers { OnServers (T.servers site.old) places.now }
     requires range { IsTrue T.tells → HoldRange (T.disk site.old).files volume places.now (at + size) }
+    requires narrow { size ≤ widest_piece }
     requires room { data_count ratio * size ≤ length room.old }
     ensures gathered { (old : Counts) → IsLater old (T.counts site.old)
         → HasEnough (data_count ratio) (data_count ratio + parity_count ratio) (IsTrue T.tells)
@@ -47,8 +48,7 @@ pub(crate) fn gather<T: Site>(
     ensures same { IsTrue T.tells → T.disk site.new ≡ T.disk site.old }
     ensures calls { TakesCalls (length (standing_in places.now (data_count ratio + parity_count ratio)))
         size (T.counts site.old) (T.counts site.new) }
-    ensures later { IsLater (T.counts site.old) (T.counts site.new) }
-    ensures servers { T.servers site.new ≡ T.servers site.old }
+    ensures runs { Calls T.counts T.servers site.old site.new (λ s. ⊥) }
     ensures size { length room.new ≡ length room.old }
 {
     let mut so_far = Gathered {
@@ -94,6 +94,7 @@ fn gather_one<T: Site>(
     requires range { IsTrue T.tells → HoldRange (T.disk site.old).files volume places.now (at + size) }
     requires count { so_far.old.count < 16 }
     requires numbers { length so_far.old.have ≡ 16 }
+    requires narrow { size ≤ widest_piece }
     requires room { (so_far.old.count + 1) * size ≤ length room.old }
     ensures gathered { (old : Counts) → IsLater old (T.counts site.old)
         → HasGathered (IsTrue T.tells) (T.disk site.old).files volume places.now at size old
@@ -108,8 +109,7 @@ fn gather_one<T: Site>(
     ensures at_most { so_far.new.count ≤ so_far.old.count + 1 }
     ensures same { IsTrue T.tells → T.disk site.new ≡ T.disk site.old }
     ensures calls { TakesCalls (reads_of places.now shard) size (T.counts site.old) (T.counts site.new) }
-    ensures later { IsLater (T.counts site.old) (T.counts site.new) }
-    ensures servers { T.servers site.new ≡ T.servers site.old }
+    ensures runs { Calls T.counts T.servers site.old site.new (λ s. ⊥) }
     ensures size { length room.new ≡ length room.old }
 {
     let Some(server) = places[usize::from(shard)] else {

@@ -1,12 +1,16 @@
 //! Ranges of a coded volume's data file, also with shards missing or on devices that fail.
 //!
-//! A piece of a shard is read from the shard itself, if it stands and its device answers, and else made from as
-//! many other shards as the volume has data shards, the lowest first.
+//! A piece of a shard is read from the shard itself, if it stands and its device answers, and else made from
+//! as many other shards as the volume has data shards, the lowest first.
 #![tactic(auto)]
 
 mod gathering;
+mod ranges;
 mod reader;
 mod reading;
 mod restoring;
 
 pub use reader::{PART, Reader};
+
+#[cfg(test)]
+mod tests;

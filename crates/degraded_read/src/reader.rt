@@ -1,24 +1,25 @@
 // Reads of a volume's shards, with the names and the room that they need.
-ghost use Rattle.std.specs.Prelude.{◌≡◌, ◌<◌, ◌≤◌, ◌+◌, IsTrue, IfErr, IfOk, OnOk, length, map};
+ghost use Rattle.std.specs.Prelude.{◌≡◌, ◌<◌, ◌≤◌, ◌+◌, IsTrue, IfErr, IsErrOf, IfOk, OnOk, Some, length, map};
 ghost use Rattle.std.specs.String.{string_bytes};
-ghost use Rattle.site_model.specs.Counts.{IsLater, TakesCalls};
+ghost use Rattle.site_model.specs.Counts.{Calls, Counts, IsLater, TakesCalls};
 ghost use Rattle.stripe_layout.specs.Stripes.{shard_length, shards_in_all};
 ghost use Rattle.shard_table.specs.Table.{row_of};
 ghost use Rattle.degraded_read.specs.Gathering.{AreNames};
-ghost use Rattle.degraded_read.specs.Reading.{BlamesFew, GivesPart, HasEnoughShards, HasPlaces, shards_standing};
+ghost use Rattle.degraded_read.specs.Reading.{GivesPart, HasEnoughShards, HasFewReliable, HasPlaces, shards_standing};
+ghost use Rattle.degraded_read.specs.Ranges.{FillsPiece, IsKeptBefore, StaysBlamed};
 
 use crate::reading::read_part;
 use file_names::{FileName, Kind, spell};
 use shard_table::ShardTable;
 use site_model::{DeviceFault, Site};
 use std::alloc::{AllocError, Global};
-use stripe_layout::Info;
+use stripe_layout::{Info, Piece};
 
 /// The most bytes of a part of a shard that are read at once.
 pub const PART: usize = 65536;
 
-/// Reads parts of one volume's shards. It keeps the names of their files and the room for as many parts as the
-/// widest ratio has data shards.
+/// Reads parts of one volume's shards. It keeps the names of their files and the room for as many parts as
+/// the widest ratio has data shards.
 #[derive(Drop)]
 pub struct Reader {
     volume: u32,
@@ -29,7 +30,7 @@ pub struct Reader {
 }
 
 /// The names of the volume's shards.
-fn names_of(alloc: Global, volume: u32) -> Result<Vec<String>, AllocError>
+pub(crate) fn names_of(alloc: Global, volume: u32) -> Result<Vec<String>, AllocError>
     ensures { IfOk result (λ names. AreNames volume (map string_bytes names.items)) }
 {
     let mut names = Vec::new(alloc);
@@ -83,13 +84,13 @@ impl Reader {
         requires part { length out.old ≤ 65536 }
         ensures part { OnOk result (IsTrue T.tells
             → GivesPart (T.disk site.old).files self.old.volume info.now shard at out.new) }
-        ensures cause { IfErr result (λ fault. BlamesFew info.now (row_of table.now self.old.volume)
-            (T.counts site.old) (T.counts site.new) fault.server) }
+        ensures few { IfErr result (λ _. HasFewReliable info.now (row_of table.now self.old.volume)
+            (T.counts site.old) (T.counts site.new)) }
         ensures same { IsTrue T.tells → T.disk site.new ≡ T.disk site.old }
         ensures calls { TakesCalls (shards_standing info.now (row_of table.now self.old.volume))
             (length out.old) (T.counts site.old) (T.counts site.new) }
-        ensures later { IsLater (T.counts site.old) (T.counts site.new) }
-        ensures servers { T.servers site.new ≡ T.servers site.old }
+        ensures runs { Calls T.counts T.servers site.old site.new
+            (λ s. IsErrOf result (record { server = s })) }
         ensures volume { self.new.volume ≡ self.old.volume }
     {
         let mut failed = None;
@@ -104,6 +105,55 @@ impl Reader {
             &mut failed,
             self.room.as_mut_slice(),
             out,
+        )
+    }
+
+    /// Reads a part of a shard into `out`, from a place of it on. `failed` is the lowest server that failed
+    /// so far.
+    pub(crate) fn read_between<T: Site>(
+        &mut self,
+        site: &mut T,
+        table: &ShardTable,
+        info: &Info,
+        part: Piece,
+        failed: &mut Option<u32>,
+        from: usize,
+        out: &mut [u8],
+    ) -> Result<(), DeviceFault>
+        requires servers { table.now.servers ≡ T.servers site.old }
+        requires placed { IsTrue T.tells → HasPlaces (T.disk site.old).files self.old.volume
+            info.now (row_of table.now self.old.volume) }
+        requires enough { HasEnoughShards info.now (row_of table.now self.old.volume) }
+        requires shard { part.shard < shards_in_all info.now.geometry }
+        requires range { part.at + part.length ≤ shard_length info.now.geometry info.now.dat_size }
+        requires part { part.length ≤ 65536 }
+        requires within { from + part.length ≤ length out.old }
+        ensures part { OnOk result (IsTrue T.tells
+            → FillsPiece (T.disk site.old).files self.old.volume info.now part from out.new) }
+        ensures before { IsKeptBefore from out.old out.new }
+        ensures blamed { StaysBlamed failed.old failed.new (T.counts site.old) (T.counts site.new) }
+        ensures told { IfErr result (λ fault. failed.new ≡ Some fault.server) }
+        ensures few { IfErr result (λ _. (old : Counts) → IsLater old (T.counts site.old)
+            → HasFewReliable info.now (row_of table.now self.old.volume) old (T.counts site.new)) }
+        ensures same { IsTrue T.tells → T.disk site.new ≡ T.disk site.old }
+        ensures calls { TakesCalls (shards_standing info.now (row_of table.now self.old.volume))
+            part.length (T.counts site.old) (T.counts site.new) }
+        ensures runs { Calls T.counts T.servers site.old site.new (λ s. ⊥) }
+        ensures volume { self.new.volume ≡ self.old.volume }
+        ensures size { length out.new ≡ length out.old }
+    {
+        let end = from + part.length as usize;
+        read_part(
+            site,
+            self.volume,
+            self.names.as_slice(),
+            table,
+            info,
+            part.shard,
+            part.at,
+            failed,
+            self.room.as_mut_slice(),
+            &mut out[from..end],
         )
     }
 }

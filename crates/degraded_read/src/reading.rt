@@ -1,7 +1,7 @@
 // A part of a shard, from the shard itself or from others.
 ghost use Rattle.std.specs.Prelude.{◌≡◌, ◌<◌, ◌≤◌, ◌+◌, ◌*◌, IsTrue, IfErr, IfSome, OnOk, None, Some, slice_set, length, map};
 ghost use Rattle.std.specs.String.{string_bytes};
-ghost use Rattle.site_model.specs.Counts.{Counts, IsLater, TakesCalls};
+ghost use Rattle.site_model.specs.Counts.{Counts, Calls, IsLater, TakesCalls, widest_piece};
 ghost use Rattle.world_model.specs.Ratios.{data_count};
 ghost use Rattle.stripe_layout.specs.Stripes.{shard_length, shards_in_all};
 ghost use Rattle.shard_table.specs.Table.{place_in, row_of};
@@ -37,8 +37,8 @@ fn own_place(places: &Places, ratio: Ratio, shard: u8) -> Option<u32>
     }
 }
 
-/// Reads a part of a shard: from the shard itself, if it holds data and stands and its device answers, and else
-/// from as many others as give it. `failed` is the lowest server that failed so far.
+/// Reads a part of a shard: from the shard itself, if it holds data and stands and its device answers, and
+/// else from as many others as give it. `failed` is the lowest server that failed so far.
 pub(crate) fn read_part<T: Site>(
     site: &mut T,
     volume: u32,
@@ -58,6 +58,7 @@ pub(crate) fn read_part<T: Site>(
     requires enough { HasEnoughShards info.now (row_of table.now volume) }
     requires shard { shard < shards_in_all info.now.geometry }
     requires range { at + length out.old ≤ shard_length info.now.geometry info.now.dat_size }
+    requires narrow { length out.old ≤ widest_piece }
     requires room { data_count info.now.geometry.ratio * length out.old ≤ length room.old }
     ensures part { OnOk result (IsTrue T.tells
         → GivesPart (T.disk site.old).files volume info.now shard at out.new) }
@@ -69,8 +70,7 @@ pub(crate) fn read_part<T: Site>(
     ensures same { IsTrue T.tells → T.disk site.new ≡ T.disk site.old }
     ensures calls { TakesCalls (shards_standing info.now (row_of table.now volume)) (length out.old)
         (T.counts site.old) (T.counts site.new) }
-    ensures later { IsLater (T.counts site.old) (T.counts site.new) }
-    ensures servers { T.servers site.new ≡ T.servers site.old }
+    ensures runs { Calls T.counts T.servers site.old site.new (λ s. ⊥) }
     ensures size { length out.new ≡ length out.old }
     ensures room { length room.new ≡ length room.old }
 {

@@ -1,7 +1,7 @@
 // A part of a shard from other shards.
 ghost use Rattle.std.specs.Prelude.{◌≡◌, ◌<◌, ◌≤◌, ◌+◌, ◌*◌, ℕ, IsTrue, IsSome, Some, None, IfErr, OnOk, length, map};
 ghost use Rattle.std.specs.String.{string_bytes};
-ghost use Rattle.site_model.specs.Counts.{Counts, IsLater, TakesCalls};
+ghost use Rattle.site_model.specs.Counts.{Counts, Calls, IsLater, TakesCalls, widest_piece};
 ghost use Rattle.world_model.specs.Ratios.{data_count, parity_count};
 ghost use Rattle.image_meaning.specs.Files.{contents, files_of, standing};
 ghost use Rattle.degraded_read.specs.Gathering.{AreNames, HoldRange, IsBlamed, OnServers, reliable, standing_in};
@@ -33,6 +33,7 @@ pub(crate) fn restored<T: Site>(
     requires enough { failed.old ≡ None
         → data_count ratio ≤ length (standing_in places.now (data_count ratio + parity_count ratio)) }
     requires shard { shard < data_count ratio + parity_count ratio }
+    requires narrow { length out.old ≤ widest_piece }
     requires room { data_count ratio * length out.old ≤ length room.old }
     ensures part { OnOk result (IsTrue T.tells → (n : ℕ)
         → ArePlaced (T.disk site.old).files volume n places.now → at + length out.old ≤ n
@@ -48,8 +49,7 @@ pub(crate) fn restored<T: Site>(
     ensures same { IsTrue T.tells → T.disk site.new ≡ T.disk site.old }
     ensures calls { TakesCalls (length (standing_in places.now (data_count ratio + parity_count ratio)))
         (length out.old) (T.counts site.old) (T.counts site.new) }
-    ensures later { IsLater (T.counts site.old) (T.counts site.new) }
-    ensures servers { T.servers site.new ≡ T.servers site.old }
+    ensures runs { Calls T.counts T.servers site.old site.new (λ s. ⊥) }
     ensures size { length out.new ≡ length out.old }
     ensures room { length room.new ≡ length room.old }
 {

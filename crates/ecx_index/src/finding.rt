@@ -1,7 +1,7 @@
 // A search by halves.
 ghost use Rattle.std.specs.Prelude.{◌≡◌, ◌<◌, ◌+◌, ◌*◌, ◌/◌, ◌≤◌, ◌^◌, IsTrue, IfOk, IfErr, IsErr, drop};
 ghost use Rattle.site_model.specs.Disk.{bytes_of, length_of};
-ghost use Rattle.site_model.specs.Counts.{HasCause, CountsRead};
+ghost use Rattle.site_model.specs.Counts.{CallsAt, CountsRead};
 ghost use Rattle.volume_forms.specs.Forms.{entry_at};
 ghost use Rattle.ecx_index.specs.Search.{entries_in, IsEntryOf, TakesFewReads};
 
@@ -27,10 +27,8 @@ pub fn find<T: Site>(
     ensures calls { IsTrue T.tells
         → TakesFewReads (length_of ((T.disk site.old).files (server, name.now)) / 16)
         (T.counts site.old) (T.counts site.new) }
-    ensures cause { HasCause server (T.counts site.old) (T.counts site.new) (IsErr result) }
+    ensures runs { CallsAt T.counts T.servers server site.old site.new (IsErr result) }
     ensures blame { IfErr result (λ fault. fault.server ≡ server) }
-    ensures servers { T.servers site.new ≡ T.servers site.old }
-    ensures says { (T.counts site.new).say_faults ≡ (T.counts site.old).say_faults }
 {
     let size = match site.size(server, name) {
         Ok(Some(size)) => size,

@@ -1,7 +1,7 @@
 use Rattle.std.proofs.Common.{◌+◌, take, sym, ◌∙◌, ap, subst, length-take, arith}
 use Rattle.std.specs.Prelude.{IsTrue}
 use Rattle.site_model.specs.Counts.{TakesCalls}
-use Rattle.site_model.specs.CountLaws.{later_on, takes_on, takes_within}
+use Rattle.site_model.specs.Laws.Count.{later_on, takes_on, takes_within, calls_on_anywhere}
 use Rattle.world_model.specs.Ratios.{data_count, parity_count, data_count-twelve}
 use Rattle.degraded_read.proofs.Steps.{same_gathered, gathered_ends, standing_next, standing_within}
 use Rattle.degraded_read.proofs.gathering.gather.Goals as goal
@@ -15,15 +15,14 @@ loop-shard-preserved g c =
       count = omega (arith, did.at_most, c.if-so_far-enough.true);
       numbers = did.numbers;
       same = λ told. did.same told ∙ inv.same told;
-      servers = did.servers ∙ inv.servers;
       calls = subst (λ n. TakesCalls n c.args.size (g.T.Site.counts c.args.site.now) (g.T.Site.counts c.gather_one.new.site)) (standing_next c.args.places.now c.loop-shard.shard) (takes_on inv.calls did.calls);
-      later = later_on inv.later did.later;
+      runs = calls_on_anywhere inv.runs did.runs;
       kept = λ none. inv.kept (did.kept none);
-      blamed = λ old before was. did.blamed old (later_on before inv.later) (inv.blamed old before was);
+      blamed = λ old before was. did.blamed old (later_on before inv.runs.later) (inv.blamed old before was);
       gathered = λ old before.
           same_gathered (IsTrue g.T.Site.tells) (g.T.Site.disk c.loop-shard.site).files (g.T.Site.disk c.args.site.now).files c.args.volume c.args.places.now c.args.at c.args.size old (g.T.Site.counts c.gather_one.new.site) (c.loop-shard.shard + 1)
           (take c.gather_one.new.so_far.count c.gather_one.new.so_far.have) c.gather_one.new.so_far.failed c.gather_one.new.room (λ told. ap (λ d. d.files) (inv.same told))
-          (did.gathered old (later_on before inv.later)
+          (did.gathered old (later_on before inv.runs.later)
           (same_gathered (IsTrue g.T.Site.tells) (g.T.Site.disk c.args.site.now).files (g.T.Site.disk c.loop-shard.site).files c.args.volume c.args.places.now c.args.at c.args.size old (g.T.Site.counts c.loop-shard.site) c.loop-shard.shard
           (take c.loop-shard.so_far.count c.loop-shard.so_far.have) c.loop-shard.so_far.failed c.loop-shard.room (λ told. sym (ap (λ d. d.files) (inv.same told))) (inv.gathered old before)));
     }

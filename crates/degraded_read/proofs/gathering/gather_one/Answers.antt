@@ -2,7 +2,7 @@ use Rattle.std.proofs.Common.{◌≡◌, ◌+◌, ◌*◌, ◌<◌, ◌≤◌, [
 use Rattle.std.specs.Prelude.{IsTrue, slice_index, slice_index_or, string_bytes}
 use Rattle.std.specs.Option.{option_map_or}
 use Rattle.site_model.specs.Disk.{bytes_of}
-use Rattle.site_model.specs.CountLaws.{later_read}
+use Rattle.site_model.specs.Laws.Count.{later_read}
 use Rattle.shard_table.specs.Table.{place_in}
 use Rattle.degraded_read.specs.Gathering.{HasGathered, shard_at, shard_name}
 use Rattle.degraded_read.proofs.Steps.{absent_next, read_next, failed_next, blamed_later, blamed_next, none_of, name_is, one_more}

@@ -4,7 +4,7 @@ use Rattle.std.proofs.lemmas.Bool.{lt-ltb}
 use Rattle.std.specs.Option.{option_map_or}
 use Rattle.site_model.specs.Disk.{Disk, bytes_of}
 use Rattle.site_model.specs.Counts.{TakesCalls}
-use Rattle.site_model.specs.CountLaws.{later_read, later_on, takes_read, takes_on, takes_within}
+use Rattle.site_model.specs.Laws.Count.{later_read, later_on, takes_read, takes_on, takes_within, calls_read, calls_anywhere, calls_on_anywhere}
 use Rattle.world_model.specs.Ratios.{data_count, counts-sixteen}
 use Rattle.stripe_layout.specs.Stripes.{shard_length, shards_in_all}
 use Rattle.shard_table.specs.Table.{place_in, row_of}
@@ -12,7 +12,7 @@ use Rattle.image_meaning.specs.Files.{contents, files_of, standing}
 use Rattle.degraded_read.specs.Gathering.{shard_at, shard_name, standing_in, reliable}
 use Rattle.degraded_read.specs.Reading.{ArePlaced, AreOneCode, IsPart}
 use Rattle.degraded_read.proofs.Filling.{on_ok, on_err}
-use Rattle.degraded_read.proofs.Steps.{name_is}
+use Rattle.degraded_read.proofs.Steps.{name_is, blamed_next}
 use Rattle.degraded_read.proofs.Restored.{row_stands, read_part}
 use Rattle.degraded_read.proofs.Parts.{placed_without, reliable_without, standing_without, one_if}
 use Rattle.degraded_read.proofs.reading.read_part.Goals as goal
@@ -102,12 +102,13 @@ returns-in-Err-clause-few g c =
     subst (λ q. reliable q old new all ≤ reliable c.without-places.result old new all) c.row-row.ensures.row
     (subst (λ q. reliable row old new all ≤ reliable q old new all) (sym c.without-places.ensures)
     (reliable_without row c.args.shard all c.in-Some.server old new (omega (arith, c.row-row.ensures.placed.shards, c.requires.shard, counts-sixteen r)) c.in-Some.ensures
-    (omega (arith, before.faults c.in-Some.server, risen, c.restored-in-Err.ensures.later.faults c.in-Some.server)))) in
+    (omega (arith, before.faults c.in-Some.server, risen, c.restored-in-Err.ensures.runs.later.faults c.in-Some.server)))) in
     omega (arith, unreliable, few old (later_on before later)))
     c.restored-in-Err.ensures.few
 
-pub returns-in-Err-clause-later : goal.returns-in-Err-clause-later
-returns-in-Err-clause-later g c = later_on (later_read c.read_into.ensures.counts) c.restored-in-Err.ensures.later
+pub returns-in-Err-clause-runs : goal.returns-in-Err-clause-runs
+returns-in-Err-clause-runs g c =
+    calls_on_anywhere (calls_anywhere (calls_read (omega (arith, c.requires.narrow)) c.read_into.ensures.counts c.read_into.ensures.servers)) c.restored-in-Err.ensures.runs
 
 pub returns-in-Err-clause-calls : goal.returns-in-Err-clause-calls
 returns-in-Err-clause-calls g c =
@@ -124,3 +125,10 @@ returns-in-Err-clause-calls g c =
     let second : TakesCalls (length (standing_in c.without-places.result (shards_in_all c.args.info.now.geometry))) (length c.args.out.now) (g.T.Site.counts c.read_into.new.site) (g.T.Site.counts c.restored-in-Err.new.site) =
     takes_within (omega arith) (omega (arith, c.read_into.ensures.size)) c.restored-in-Err.ensures.calls in
     takes_within {m = 1 + rest} (omega (arith, fewer)) (omega arith) (takes_on {m = 1} {n = rest} first second)
+
+pub returns-in-Err-clause-blamed : goal.returns-in-Err-clause-blamed
+returns-in-Err-clause-blamed g c old before was =
+    let later = later_read c.read_into.ensures.counts in
+    c.restored-in-Err.ensures.blamed old (later_on before later)
+    (blamed_next old (g.T.Site.counts c.args.site.now) (g.T.Site.counts c.read_into.new.site) c.args.failed.now c.in-Some.server c.lower.result before later
+    (c.in-Err.ensures.counts.failed refl) was c.lower.ensures)

@@ -1,8 +1,7 @@
-use Rattle.std.proofs.Common.{◌≡◌, ◌⊎◌, inl, inr, ⊎_elim, ◌+◌, ◌*◌, ◌<◌, ℕ, zero, suc, Option, Some, None, length, take, refl, ◌∙◌, subst, length-take, arith}
+use Rattle.std.proofs.Common.{◌≡◌, ◌+◌, ◌*◌, ◌<◌, ℕ, zero, suc, Option, Some, None, length, take, refl, ◌∙◌, subst, length-take, arith}
 use Rattle.std.specs.Prelude.{IsSome}
 use Rattle.std.proofs.lemmas.List.{get_or-take}
-use Rattle.site_model.specs.Counts.{Rose}
-use Rattle.site_model.specs.CountLaws.{later_none}
+use Rattle.site_model.specs.Laws.Count.{later_none}
 use Rattle.world_model.specs.Ratios.{data_count, parity_count, data_count-twelve}
 use Rattle.rs_kernel.specs.Pieces.{IsRestored}
 use Rattle.degraded_read.proofs.Restored.{restored_part}

@@ -1,6 +1,6 @@
 use Rattle.std.proofs.Common.{ℕ, ◌+◌, ◌-◌, ◌*◌, ◌/◌, List, drop, ◌∙◌, ap, arith}
 use Rattle.site_model.specs.Disk.{Disk, bytes_of}
-use Rattle.site_model.specs.CountLaws.{cause_read, cause_on}
+use Rattle.site_model.specs.Laws.Count.{calls_read, calls_on}
 use Rattle.volume_forms.specs.Forms.{entry_at}
 use Rattle.ecx_index.proofs.Halves.{upper_half, lower_half, none_left, once_more, few_reads, in_middle, found_at, less_at, more_at}
 use Rattle.ecx_index.proofs.finding.find.Goals as goal
@@ -27,9 +27,7 @@ loop-low-preserved-then-entry-id-2 g c =
     let middle : ℕ = c.loop-low.low + (c.loop-low.high - c.loop-low.low) / 2 in
     record {
       within = c.loop-low.invariant.within;
-      servers = c.entry_in.ensures.servers ∙ c.loop-low.invariant.servers;
-      says = c.entry_in.ensures.counts.says ∙ c.loop-low.invariant.says;
-      cause = cause_on c.loop-low.invariant.cause (cause_read c.in_ok-entry.ensures.counts);
+      runs = calls_on c.loop-low.invariant.runs (calls_read (omega arith) c.in_ok-entry.ensures.counts c.entry_in.ensures.servers);
       same = λ told. c.entry_in.ensures.same told ∙ c.loop-low.invariant.same told;
       sized = c.loop-low.invariant.sized;
       between = λ told rising.
@@ -48,9 +46,7 @@ loop-low-preserved g c =
     let middle : ℕ = c.loop-low.low + (c.loop-low.high - c.loop-low.low) / 2 in
     record {
       within = omega (arith, c.loop-low-test.true, c.loop-low.invariant.within);
-      servers = c.entry_in.ensures.servers ∙ c.loop-low.invariant.servers;
-      says = c.entry_in.ensures.counts.says ∙ c.loop-low.invariant.says;
-      cause = cause_on c.loop-low.invariant.cause (cause_read c.in_ok-entry.ensures.counts);
+      runs = calls_on c.loop-low.invariant.runs (calls_read (omega arith) c.in_ok-entry.ensures.counts c.entry_in.ensures.servers);
       same = λ told. c.entry_in.ensures.same told ∙ c.loop-low.invariant.same told;
       sized = c.loop-low.invariant.sized;
       between = λ told rising.

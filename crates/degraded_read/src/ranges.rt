@@ -1,0 +1,137 @@
+// A range of a data file: the pieces of its shards, one after the other, each in parts.
+ghost use Rattle.std.specs.Prelude.{◌≡◌, ◌<◌, ◌≤◌, ◌+◌, ◌*◌, ◌^◌, ℕ, IsTrue, IfErr, IsErrOf, OnOk, Some, length};
+ghost use Rattle.std.specs.List.{AllByRecursion, sum_by};
+ghost use Rattle.site_model.specs.Counts.{Calls, Counts, IsLater};
+ghost use Rattle.stripe_layout.specs.Pieces.{IsPiece};
+ghost use Rattle.stripe_layout.specs.Stripes.{GeometryInRange, shard_length};
+ghost use Rattle.shard_table.specs.Table.{row_of};
+ghost use Rattle.degraded_read.specs.Reading.{HasEnoughShards, HasFewReliable, HasPlaces};
+ghost use Rattle.degraded_read.specs.Ranges.{FillsPiece, FillsPieces, GivesRange, IsKeptBefore, StaysBlamed};
+ghost use Rattle.degraded_read.specs.Ranges.{TakesParts, TakesReads, parts_in, parts_of};
+
+use crate::reader::{PART, Reader};
+use shard_table::ShardTable;
+use site_model::{DeviceFault, Site};
+use stripe_layout::pieces::Pieces;
+use stripe_layout::{Info, Piece};
+
+impl Reader {
+    /// Reads a range of the data file, from `offset` on. Each piece of a shard is read in parts of at most
+    /// 65,536 bytes. The fault is that of the lowest server that failed in any part.
+    pub fn read_range<T: Site>(
+        &mut self,
+        site: &mut T,
+        table: &ShardTable,
+        info: &Info,
+        offset: u64,
+        out: &mut [u8],
+    ) -> Result<(), DeviceFault>
+        requires servers { table.now.servers ≡ T.servers site.old }
+        requires placed { IsTrue T.tells → HasPlaces (T.disk site.old).files self.old.volume
+            info.now (row_of table.now self.old.volume) }
+        requires enough { HasEnoughShards info.now (row_of table.now self.old.volume) }
+        requires geometry { GeometryInRange info.now.geometry }
+        requires dat_size { info.now.dat_size ≤ 2 ^ 35 }
+        requires range { offset + length out.old ≤ info.now.dat_size }
+        ensures range { OnOk result (IsTrue T.tells
+            → GivesRange (T.disk site.old).files self.old.volume info.now offset out.new) }
+        ensures few { IfErr result (λ _. HasFewReliable info.now (row_of table.now self.old.volume)
+            (T.counts site.old) (T.counts site.new)) }
+        ensures same { IsTrue T.tells → T.disk site.new ≡ T.disk site.old }
+        ensures calls { TakesParts info.now (row_of table.now self.old.volume) offset (length out.old)
+            (T.counts site.old) (T.counts site.new) }
+        ensures runs { Calls T.counts T.servers site.old site.new
+            (λ s. IsErrOf result (record { server = s })) }
+        ensures volume { self.new.volume ≡ self.old.volume }
+    {
+        let pieces = info
+            .geometry
+            .locate(info.dat_size, offset, out.len() as u64);
+        self.read_pieces(site, table, info, pieces, out)
+    }
+
+    /// Reads pieces of shards into `out`, one after the other.
+    fn read_pieces<T: Site>(
+        &mut self,
+        site: &mut T,
+        table: &ShardTable,
+        info: &Info,
+        pieces: Pieces,
+        out: &mut [u8],
+    ) -> Result<(), DeviceFault>
+        requires servers { table.now.servers ≡ T.servers site.old }
+        requires placed { IsTrue T.tells → HasPlaces (T.disk site.old).files self.old.volume
+            info.now (row_of table.now self.old.volume) }
+        requires enough { HasEnoughShards info.now (row_of table.now self.old.volume) }
+        requires pieces { AllByRecursion (IsPiece info.now.geometry info.now.dat_size) pieces }
+        requires fits { shard_length info.now.geometry info.now.dat_size < 2 ^ 64 }
+        requires within { sum_by (λ p. p.length) pieces ≡ length out.old }
+        ensures pieces { OnOk result (IsTrue T.tells
+            → FillsPieces (T.disk site.old).files self.old.volume info.now pieces out.new) }
+        ensures few { IfErr result (λ _. HasFewReliable info.now (row_of table.now self.old.volume)
+            (T.counts site.old) (T.counts site.new)) }
+        ensures same { IsTrue T.tells → T.disk site.new ≡ T.disk site.old }
+        ensures calls { TakesReads (parts_of pieces) info.now (row_of table.now self.old.volume)
+            (T.counts site.old) (T.counts site.new) }
+        ensures runs { Calls T.counts T.servers site.old site.new
+            (λ s. IsErrOf result (record { server = s })) }
+        ensures volume { self.new.volume ≡ self.old.volume }
+        ensures size { length out.new ≡ length out.old }
+    {
+        let mut failed = None;
+        let mut done = 0;
+        for piece in pieces {
+            self.read_piece(site, table, info, piece, &mut failed, done, out)?;
+            done += piece.length as usize;
+        }
+        Ok(())
+    }
+
+    /// Reads a piece of a shard into `out`, from a place of it on, in parts. `failed` is the lowest server
+    /// that failed so far.
+    fn read_piece<T: Site>(
+        &mut self,
+        site: &mut T,
+        table: &ShardTable,
+        info: &Info,
+        piece: Piece,
+        failed: &mut Option<u32>,
+        from: usize,
+        out: &mut [u8],
+    ) -> Result<(), DeviceFault>
+        requires servers { table.now.servers ≡ T.servers site.old }
+        requires placed { IsTrue T.tells → HasPlaces (T.disk site.old).files self.old.volume
+            info.now (row_of table.now self.old.volume) }
+        requires enough { HasEnoughShards info.now (row_of table.now self.old.volume) }
+        requires piece { IsPiece info.now.geometry info.now.dat_size piece }
+        requires fits { shard_length info.now.geometry info.now.dat_size < 2 ^ 64 }
+        requires within { from + piece.length ≤ length out.old }
+        ensures piece { OnOk result (IsTrue T.tells
+            → FillsPiece (T.disk site.old).files self.old.volume info.now piece from out.new) }
+        ensures before { IsKeptBefore from out.old out.new }
+        ensures blamed { StaysBlamed failed.old failed.new (T.counts site.old) (T.counts site.new) }
+        ensures told { IfErr result (λ fault. failed.new ≡ Some fault.server) }
+        ensures few { IfErr result (λ _. (old : Counts) → IsLater old (T.counts site.old)
+            → HasFewReliable info.now (row_of table.now self.old.volume) old (T.counts site.new)) }
+        ensures same { IsTrue T.tells → T.disk site.new ≡ T.disk site.old }
+        ensures calls { TakesReads (parts_in piece.length) info.now (row_of table.now self.old.volume)
+            (T.counts site.old) (T.counts site.new) }
+        ensures runs { Calls T.counts T.servers site.old site.new (λ s. ⊥) }
+        ensures volume { self.new.volume ≡ self.old.volume }
+        ensures size { length out.new ≡ length out.old }
+    {
+        let count = piece.length as usize;
+        let mut done = 0;
+        while done < count {
+            let size = PART.min(count - done);
+            let part = Piece {
+                shard: piece.shard,
+                at: piece.at + done as u64,
+                length: size as u64,
+            };
+            self.read_between(site, table, info, part, failed, from + done, out)?;
+            done += size;
+        }
+        Ok(())
+    }
+}

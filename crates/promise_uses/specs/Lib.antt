@@ -1,0 +1,4 @@
+pub mod Maps
+pub mod Lives
+pub mod Runs
+pub mod Starts

@@ -9,7 +9,7 @@ use Rattle.site_model.specs.Touches.{touches_more, firm_left}
 use Rattle.file_names.specs.declared.Kind.TheVariants.{Shard, Ecj}
 use Rattle.file_names.specs.Names.{name_bytes}
 use Rattle.wire_num.specs.Pairs.{pairs, journal_bytes}
-use Rattle.wire_num.specs.PairLaws.{AreIds, HasOrGains, pairs_of_journal, length-journal_bytes}
+use Rattle.wire_num.specs.Laws.Pair.{AreIds, HasOrGains, pairs_of_journal, length-journal_bytes}
 use Rattle.volume_forms.specs.Forms.{entries}
 use Rattle.stripe_layout.specs.declared.Info.{Info}
 use Rattle.image_meaning.specs.Files.{VolumeFiles, contents, place_of, files_of, lose_files, bytes_at}
@@ -19,10 +19,10 @@ use Rattle.image_meaning.specs.Sound.{IsHolder, IsCoded}
 use Rattle.image_meaning.specs.Ends.{SurvivesIn}
 use Rattle.image_meaning.specs.Share.{share_of, IsFirmShare}
 use Rattle.image_meaning.specs.Parts.{Parts, IsMadeOf, HasEnough, IsCodedForm, AllHave}
-use Rattle.image_meaning.specs.PartLaws.{HasParts, parts_of, made_coded, made_enough, made_home, made_info}
+use Rattle.image_meaning.specs.Laws.Part.{HasParts, parts_of, made_coded, made_enough, made_home, made_info}
 use Rattle.image_meaning.specs.CodedCopies.{same_holder}
 use Rattle.image_meaning.specs.JournalPlaces.{journal_apart}
-use Rattle.image_meaning.specs.DeleteLaws.{with_deleted, CanDelete, IsDeleting, deleting_held, deleting_made, deleting_form, deleting_sound, deleting_means, deleted_means}
+use Rattle.image_meaning.specs.Laws.Delete.{with_deleted, CanDelete, IsDeleting, deleting_held, deleting_made, deleting_form, deleting_sound, deleting_means, deleted_means}
 use Rattle.shard_table.specs.Table.{Row}
 use Rattle.coded_volume.specs.Deleting.{HasShard, IsFirmJournal, AreJournals, AreFirmJournals, AppendsEverywhere}
 use Rattle.coded_volume.proofs.Everywhere.{none_deleted}

@@ -4,39 +4,16 @@ use Rattle.std.specs.Prelude.{unwrap_or}
 use Rattle.std.proofs.lemmas.List.{append-nil}
 use Rattle.std.proofs.lemmas.Bool.{cases_eq, cases_lt}
 use Rattle.site_model.specs.Disk.{File, Place, LeftOf, IsFirm, bytes_of, firm_file, standing, Disk}
-use Rattle.site_model.specs.Counts.{Counts, HasCause, HasWriteCause, IsLater, TakesCalls}
-use Rattle.site_model.specs.CountLaws.{rose_after}
 use Rattle.site_model.specs.Leaves.{starts, joins, weaker, both}
 use Rattle.site_model.specs.Touches.{touches_none, touches_on, touches_more, firm_left}
 use Rattle.wire_num.specs.Numbers as numbers
-use Rattle.wire_num.specs.NumberLaws.{length-bytes_of}
+use Rattle.wire_num.specs.Laws.Number.{length-bytes_of}
 use Rattle.wire_num.specs.Pairs.{pair_bytes, journal_bytes}
-use Rattle.wire_num.specs.PairLaws.{AreIds, HasOrGains, has_behind, has_half, journal_with}
+use Rattle.wire_num.specs.Laws.Pair.{AreIds, HasOrGains, has_behind, has_half, journal_with}
 use Rattle.shard_table.specs.Table.{Row}
 use Rattle.shard_table.specs.Even.{count_on}
 use Rattle.ecj_journal.specs.Journals.{AppendsPair}
-use Rattle.coded_volume.specs.Deleting.{HasShard, AreJournals, AreFirmJournals, AppendsEverywhere, AppendsAt, RoseAt}
-
-each_server : (server : ℕ) (old new : ℕ → ℕ) → old server ≤ new server → ((s : ℕ) → s ≢ server → new s ≡ old s) → (s : ℕ) → old s ≤ new s
-each_server server old new here others s = elim (cases_eq s server) [
-  | inl e ↦ subst (λ t. old t ≤ new t) (sym e) here
-  | inr other ↦ omega (arith, others s other)
-]
-
--- the counts after a journal was written
-pub later_at : {server calls width : ℕ} {old new : Counts} {F : Type 0} → HasCause server old new F → HasWriteCause server old new F → TakesCalls calls width old new → new.say_faults ≡ old.say_faults → IsLater old new
-later_at {server} {calls} {width} {old} {new} cause writes takes says = record {
-  faults = each_server server old.faults new.faults cause.later cause.others;
-  write_faults = each_server server old.write_faults new.write_faults writes.later writes.others;
-  say_faults = omega (arith, says);
-  calls = takes.no_fewer;
-}
-
-pub rose_on : {server : ℕ} {old mid new : Counts} → IsLater old mid → RoseAt server mid new → RoseAt server old new
-rose_on {server} {old} {mid} {new} later rose = record {
-  faults = rose_after (old.faults server) (mid.faults server) (new.faults server) (later.faults server) rose.faults;
-  write_faults = rose_after (old.write_faults server) (mid.write_faults server) (new.write_faults server) (later.write_faults server) rose.write_faults;
-}
+use Rattle.coded_volume.specs.Deleting.{HasShard, AreJournals, AreFirmJournals, AppendsEverywhere, AppendsAt}
 
 -- what is left of a firm journal with this id behind, or without
 gains_by : (ids : List ℕ) (id : ℕ) (file : Option File) (image : Option (List ℕ)) (bytes : List ℕ) → IsFirm file → bytes_of file ≡ bytes → LeftOf file image → HasOrGains ids id bytes → HasOrGains ids id (unwrap_or image [])
@@ -49,12 +26,12 @@ gains_by ids id file image bytes firm is left gains =
 
 module _ (servers : ℕ) (row : Row) (name : List ℕ) (id : ℕ) where
   -- the servers below this one are done
-  pub record HasDeleted (n : ℕ) (old new : Disk) : Type 0 where
+  pub record HasAppendedBelow (n : ℕ) (old new : Disk) : Type 0 where
     pub effect : AppendsEverywhere servers row name id old new
     pub written : (s : ℕ) → s < n → HasShard row s → new.files (s, name) ≡ Some (firm_file (bytes_of (old.files (s, name)) ++ pair_bytes id))
     pub to_write : (s : ℕ) → n ≤ s → new.files (s, name) ≡ old.files (s, name)
 
-  pub none_deleted : (disk : Disk) → HasDeleted 0 disk disk
+  pub none_deleted : (disk : Disk) → HasAppendedBelow 0 disk disk
   none_deleted disk = record {
     effect = record {
       touches = touches_none disk;
@@ -66,7 +43,7 @@ module _ (servers : ℕ) (row : Row) (name : List ℕ) (id : ℕ) where
     to_write = λ s more. refl;
   }
 
-  module _ (n : ℕ) (within : n < servers) (small : id < 2 ^ 64) (old mid new : Disk) (so_far : HasDeleted n old mid) where
+  module _ (n : ℕ) (within : n < servers) (small : id < 2 ^ 64) (old mid new : Disk) (so_far : HasAppendedBelow n old mid) where
     -- one more holder
     pub one_effect : HasShard row n → AppendsPair (n, name) id mid new → AppendsEverywhere servers row name id old new
     one_effect holds did = record {
@@ -100,7 +77,7 @@ module _ (servers : ℕ) (row : Row) (name : List ℕ) (id : ℕ) where
       | inr none ↦ subst (λ (d : Disk). AppendsEverywhere servers row name id old d) (sym (did.other (λ holds. omega (arith, holds, none)))) so_far.effect
     ]
 
-    pub at_deleted : AppendsAt row n name id mid new → (HasShard row n → new.files (n, name) ≡ Some (firm_file (bytes_of (mid.files (n, name)) ++ pair_bytes id))) → HasDeleted (n + 1) old new
+    pub at_deleted : AppendsAt row n name id mid new → (HasShard row n → new.files (n, name) ≡ Some (firm_file (bytes_of (mid.files (n, name)) ++ pair_bytes id))) → HasAppendedBelow (n + 1) old new
     at_deleted did done = record {
       effect = at_effect did;
       written = λ s less has. elim (cases_eq s n) [
@@ -118,7 +95,7 @@ module _ (servers : ℕ) (row : Row) (name : List ℕ) (id : ℕ) where
         ]
 
   -- all are done
-  pub all_deleted : (n : ℕ) (old new : Disk) → servers ≤ n → HasDeleted n old new → (ids : List ℕ) → AreJournals servers row name ids old.files → AreFirmJournals servers row name (ids ++ id ∷ []) new.files
+  pub all_deleted : (n : ℕ) (old new : Disk) → servers ≤ n → HasAppendedBelow n old new → (ids : List ℕ) → AreJournals servers row name ids old.files → AreFirmJournals servers row name (ids ++ id ∷ []) new.files
   all_deleted n old new enough did ids journals s within has =
       let is = did.written s (omega arith) has in
       record {

@@ -19,7 +19,7 @@ use Rattle.shard_table.specs.Table.{Row}
 use Rattle.dat_volume.specs.declared.fault.VolumeFault.{VolumeFault}
 use Rattle.dat_volume.specs.declared.fault.VolumeFault.TheVariants as volume_fault
 use Rattle.coded_volume.specs.declared.volume.CodedVolume.{CodedVolume}
-use Rattle.coded_volume.specs.Deleting.{HasShard, RoseAt}
+use Rattle.coded_volume.specs.Deleting.{HasShard, WritesRose}
 
 -- the journal of the volume at a server
 abbrev pub journal_place : ℕ → ℕ → Place
@@ -79,6 +79,6 @@ pub record SameVolume (old new : CodedVolume) (ids : List ℕ) : Type 0 where
   pub deleted : new.deleted.items ≡ ids
 
 -- a fault of a server is one of a call that writes
-abbrev pub TellsFault : Counts → Counts → VolumeFault → Type 0
-TellsFault old new (volume_fault.Fault fault) = RoseAt fault.server old new
-TellsFault old new volume_fault.Memory = Unit {0}
+abbrev pub TellsWrites : Counts → Counts → VolumeFault → Type 0
+TellsWrites old new (volume_fault.Fault fault) = WritesRose fault.server old new
+TellsWrites old new volume_fault.Memory = Unit {0}

@@ -5,7 +5,7 @@ use Rattle.site_model.specs.Counts.{Counts, Rose}
 use Rattle.site_model.specs.Leaves.{Leaves}
 use Rattle.site_model.specs.Touches.{Touches}
 use Rattle.wire_num.specs.Pairs.{journal_bytes}
-use Rattle.wire_num.specs.PairLaws.{AreIds, HasOrGains}
+use Rattle.wire_num.specs.Laws.Pair.{AreIds, HasOrGains}
 use Rattle.shard_table.specs.Table.{Row}
 use Rattle.shard_table.specs.Even.{count_on}
 use Rattle.ecj_journal.specs.Journals.{AppendsPair}
@@ -45,7 +45,6 @@ pub record AppendsAt (row : Row) (server : ℕ) (name : List ℕ) (id : ℕ) (ol
   pub holder : HasShard row server → AppendsPair (server, name) id old new
   pub other : (HasShard row server → ⊥) → new ≡ old
 
--- the server's faults rose, and those of its calls that write
-pub record RoseAt (server : ℕ) (old new : Counts) : Type 0 where
-  pub faults : Rose (old.faults server) (new.faults server)
-  pub write_faults : Rose (old.write_faults server) (new.write_faults server)
+-- the server's faults in calls that write rose
+abbrev pub WritesRose : ℕ → Counts → Counts → Type 0
+WritesRose server old new = Rose (old.write_faults server) (new.write_faults server)

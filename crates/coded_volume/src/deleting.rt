@@ -1,10 +1,10 @@
 // A deleted id in the journals of all holders.
-ghost use Rattle.std.specs.Prelude.{◌≡◌, ◌<◌, ◌∷◌, ◌++◌, ℕ, List, [], IsTrue, IfErr, OnOk, Some};
+ghost use Rattle.std.specs.Prelude.{◌≡◌, ◌<◌, ◌∷◌, ◌++◌, ℕ, List, [], IsTrue, IfErr, IsErrOf, OnOk, Some};
 ghost use Rattle.site_model.specs.Disk.{bytes_of, firm_file};
-ghost use Rattle.site_model.specs.Counts.{IsLater};
+ghost use Rattle.site_model.specs.Counts.{Calls};
 ghost use Rattle.wire_num.specs.Pairs.{pair_bytes};
 ghost use Rattle.shard_table.specs.Table.{row_of};
-ghost use Rattle.coded_volume.specs.Deleting.{AppendsAt, AppendsEverywhere, AreJournals, AreFirmJournals, HasShard, RoseAt};
+ghost use Rattle.coded_volume.specs.Deleting.{AppendsAt, AppendsEverywhere, AreJournals, AreFirmJournals, HasShard, WritesRose};
 
 use ecj_journal::append_pair;
 use shard_table::ShardTable;
@@ -25,10 +25,10 @@ pub(crate) fn append_everywhere<T: Site>(
         → AreJournals (T.servers site.old) (row_of table.now volume) name.now ids (T.disk site.old).files
         → AreFirmJournals (T.servers site.old) (row_of table.now volume)
         name.now (ids ++ id ∷ []) (T.disk site.new).files) }
-    ensures cause { IfErr result (λ fault. RoseAt fault.server (T.counts site.old) (T.counts site.new)) }
-    ensures later { IsLater (T.counts site.old) (T.counts site.new) }
-    ensures says { (T.counts site.new).say_faults ≡ (T.counts site.old).say_faults }
-    ensures servers { T.servers site.new ≡ T.servers site.old }
+    ensures runs { Calls T.counts T.servers site.old site.new
+        (λ s. IsErrOf result (record { server = s })) }
+    ensures write_cause { IfErr result (λ fault. WritesRose fault.server (T.counts site.old)
+        (T.counts site.new)) }
 {
     for server in 0..table.servers() {
         append_at(site, table, volume, server, name, id)?;
@@ -52,10 +52,10 @@ fn append_at<T: Site>(
     ensures done { OnOk result (HasShard (row_of table.now volume) server → IsTrue T.tells
         → (T.disk site.new).files (server, name.now)
         ≡ Some (firm_file (bytes_of ((T.disk site.old).files (server, name.now)) ++ pair_bytes id))) }
-    ensures cause { IfErr result (λ fault. RoseAt fault.server (T.counts site.old) (T.counts site.new)) }
-    ensures later { IsLater (T.counts site.old) (T.counts site.new) }
-    ensures says { (T.counts site.new).say_faults ≡ (T.counts site.old).say_faults }
-    ensures servers { T.servers site.new ≡ T.servers site.old }
+    ensures runs { Calls T.counts T.servers site.old site.new
+        (λ s. IsErrOf result (record { server = s })) }
+    ensures write_cause { IfErr result (λ fault. WritesRose fault.server (T.counts site.old)
+        (T.counts site.new)) }
 {
     if table.count(volume, server) == 0 {
         return Ok(());

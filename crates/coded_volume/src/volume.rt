@@ -1,6 +1,6 @@
 // A coded volume in memory.
 ghost use Rattle.std.specs.Prelude.{◌≡◌, ◌+◌, ◌*◌, ◌^◌, ◌<◌, ◌≤◌, ◌∷◌, ◌++◌, [], OnErr, OnOk, length};
-ghost use Rattle.wire_num.specs.PairLaws.{AreIds};
+ghost use Rattle.wire_num.specs.Laws.Pair.{AreIds};
 ghost use Rattle.image_meaning.specs.Meaning.{max_volumes};
 
 use crate::deleting::append_everywhere;
@@ -25,9 +25,9 @@ pub struct CodedVolume {
 
 impl CodedVolume {
     ghost use Rattle.std.specs.Prelude.{◌≡◌, ◌+◌, ◌*◌, ◌^◌, ◌<◌, ◌≤◌, ◌∷◌, ◌++◌, [], ℕ, IsTrue, IfErr, IsErrOf, OnOk, OnErr, length};
-    ghost use Rattle.site_model.specs.Counts.{IsLater};
+    ghost use Rattle.site_model.specs.Counts.{Calls};
     ghost use Rattle.shard_table.specs.Table.{row_of};
-    ghost use Rattle.coded_volume.specs.Deletes.{CanStart, Deletes, IsDeleted, SameVolume, TellsFault};
+    ghost use Rattle.coded_volume.specs.Deletes.{CanStart, Deletes, IsDeleted, SameVolume, TellsWrites};
 
     /// A volume of which no id is deleted. It takes no memory.
     pub fn fresh(alloc: Global, volume: u32, info: Info) -> CodedVolume
@@ -88,10 +88,9 @@ impl CodedVolume {
         ensures deleted { OnOk result (SameVolume self.old self.new (self.old.deleted.items ++ id ∷ [])) }
         ensures failed { OnErr result (SameVolume self.old self.new self.old.deleted.items) }
         ensures memory { IsErrOf result VolumeFault.Memory → site.new ≡ site.old }
-        ensures cause { IfErr result (TellsFault (T.counts site.old) (T.counts site.new)) }
-        ensures later { IsLater (T.counts site.old) (T.counts site.new) }
-        ensures says { (T.counts site.new).say_faults ≡ (T.counts site.old).say_faults }
-        ensures servers { T.servers site.new ≡ T.servers site.old }
+        ensures runs { Calls T.counts T.servers site.old site.new
+            (λ s. IsErrOf result (VolumeFault.Fault (record { server = s }))) }
+        ensures write_cause { IfErr result (TellsWrites (T.counts site.old) (T.counts site.new)) }
     {
         numbers_fit(self.volume, &self.deleted);
         let name = spell(

@@ -9,7 +9,7 @@ use Rattle.volume_forms.specs.Kept.{kept_length}
 use Rattle.dat_volume.specs.declared.chain.Chain.{Chain}
 use Rattle.dat_volume.specs.declared.opening.Kept.{Kept}
 use Rattle.dat_volume.specs.Opening.{has_record, has_record_of, last_counts, accepted}
-use Rattle.dat_volume.specs.OpeningLaws.{PassesEntries}
+use Rattle.dat_volume.specs.Laws.Opening.{PassesEntries}
 use Rattle.dat_volume.specs.Scanning.{end_behind, HasChain, IsAccepted}
 
 -- there is an entry with this number

@@ -5,7 +5,7 @@ use Rattle.file_names.specs.declared.Kind.{Kind}
 use Rattle.file_names.specs.declared.Kind.TheVariants.{Dat, Idx}
 use Rattle.file_names.specs.declared.FileName.{FileName}
 use Rattle.file_names.specs.Names.{IsKind, name_bytes}
-use Rattle.file_names.specs.NameLaws.{same_name}
+use Rattle.file_names.specs.Laws.Name.{same_name}
 use Rattle.dat_volume.specs.NewFiles.{AreApart, of_volume}
 
 -- those of an index and of a data file, whichever of them are temporary

@@ -8,8 +8,8 @@ use Rattle.volume_forms.specs.declared.SuperBlock.{SuperBlock}
 use Rattle.volume_forms.specs.declared.SuperFault.{SuperFault}
 use Rattle.volume_forms.specs.Faults.{HasFault}
 use Rattle.volume_forms.specs.Forms.{has_super}
-use Rattle.volume_forms.specs.SuperLaws.{fault-refused}
-use Rattle.image_meaning.specs.PlainLaws.{has_super-front}
+use Rattle.volume_forms.specs.Laws.Super.{fault-refused}
+use Rattle.image_meaning.specs.Laws.Plain.{has_super-front}
 
 -- there are too few bytes
 pub short_block : (dat : List ℕ) → length dat < 8 → false ≡ has_super dat

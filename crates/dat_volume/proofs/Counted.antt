@@ -3,15 +3,15 @@ use Rattle.std.proofs.Common.{◌≡◌, inl, inr, ℕ, ◌-◌, ◌*◌, ◌/�
 use Rattle.std.proofs.lemmas.Bool.{false≢true}
 use Rattle.std.proofs.lemmas.List.{take_all}
 use Rattle.volume_forms.specs.Forms.{entries}
-use Rattle.volume_forms.specs.EntryLaws.{length-entries}
+use Rattle.volume_forms.specs.Laws.Entry.{length-entries}
 use Rattle.image_meaning.specs.Plain.{FollowsRecords}
-use Rattle.image_meaning.specs.PlainLaws.{entries-take}
+use Rattle.image_meaning.specs.Laws.Plain.{entries-take}
 use Rattle.dat_volume.specs.declared.chain.Chain.{Chain}
 use Rattle.dat_volume.specs.declared.opening.Kept.{Kept}
 use Rattle.site_model.specs.declared.error.OpenFault.{OpenFault}
 use Rattle.site_model.specs.declared.error.OpenFault.TheVariants as open_fault
 use Rattle.dat_volume.specs.Opening.{counted, tested, end_by, Blames, TellsCount, TellsRule}
-use Rattle.dat_volume.specs.OpeningLaws.{counted-gap, counted-alien, counted-earlier, counted-passed, follows-passes, follows-earlier, tested-rule}
+use Rattle.dat_volume.specs.Laws.Opening.{counted-gap, counted-alien, counted-earlier, counted-passed, follows-passes, follows-earlier, tested-rule}
 use Rattle.dat_volume.specs.Scanning.{no_chain, with_entries, HasChain, FailsEntries, IsAccepted}
 use Rattle.dat_volume.proofs.Scanned.{has_chain}
 

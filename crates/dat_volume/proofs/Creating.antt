@@ -9,7 +9,7 @@ use Rattle.file_names.specs.Names.{name_bytes}
 use Rattle.dat_volume.specs.declared.writing.NewNames.{NewNames}
 use Rattle.dat_volume.specs.NewFiles.{FourPlaces, under_names, of_volume, NoneOf, Makes, AreMade}
 use Rattle.dat_volume.specs.Writes.{new_dat, NoneStands, Creates, IsCreated}
-use Rattle.dat_volume.specs.WriteLaws.{new_exact}
+use Rattle.dat_volume.specs.Laws.Write.{new_exact}
 
 -- the names are those of the volume's files
 pub named : (server v : ℕ) (names : NewNames)

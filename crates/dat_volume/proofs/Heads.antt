@@ -5,7 +5,7 @@ use Rattle.std.proofs.lemmas.List.{take-append-le, drop-append-le, length-drop, 
 use Rattle.std.proofs.Math.ListN.{length-append}
 use Rattle.std.proofs.lemmas.Bool.{lt-ltb, le-ltb, eqb-true}
 use Rattle.wire_num.specs.Numbers.{number_of, record_length}
-use Rattle.wire_num.specs.NumberLaws.{number_of-append}
+use Rattle.wire_num.specs.Laws.Number.{number_of-append}
 use Rattle.world_model.specs.declared.types.What.{What}
 use Rattle.world_model.specs.declared.types.What.TheVariants as what
 use Rattle.volume_forms.specs.declared.Entry.{Entry}
@@ -15,7 +15,7 @@ use Rattle.needle_record.specs.declared.NeedleFault.{NeedleFault}
 use Rattle.needle_record.specs.declared.NeedleFault.TheVariants as fault
 use Rattle.needle_record.specs.Given.{Gives}
 use Rattle.needle_record.specs.Spelling.{length_of_record}
-use Rattle.needle_record.specs.SpellingLaws.{found-length}
+use Rattle.needle_record.specs.Laws.Spelling.{found-length}
 use Rattle.needle_record.specs.Reading.{needle_at, needle_of, size_at, length_at, IsWhole}
 use Rattle.needle_record.specs.Laws.Fronts.{size_at-append, needle_at-whole}
 use Rattle.dat_volume.specs.declared.fault.GetFault.{GetFault}

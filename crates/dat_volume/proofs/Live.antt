@@ -12,11 +12,11 @@ use Rattle.volume_forms.specs.Kept.{fields_size}
 use Rattle.needle_record.specs.declared.Record.{Record}
 use Rattle.needle_record.specs.declared.NeedleFault.{NeedleFault}
 use Rattle.needle_record.specs.Spelling.{record_size, length_of_record}
-use Rattle.needle_record.specs.SpellingLaws.{found-whole, header-take}
+use Rattle.needle_record.specs.Laws.Spelling.{found-whole, header-take}
 use Rattle.needle_record.specs.Laws.FieldSizes.{ok_same}
 use Rattle.needle_record.specs.Reading.{needle_at, size_at, HasHeader}
 use Rattle.needle_record.specs.Records.{Placed, Index, entry_of, fold_records, StandsIn, AgreesAt}
-use Rattle.needle_record.specs.RecordsLaws.{records-stand, StandsIn-append, entry_of-place, entry_of-end, index_of-agrees}
+use Rattle.needle_record.specs.Laws.Records.{records-stand, StandsIn-append, entry_of-place, entry_of-end, index_of-agrees}
 use Rattle.dat_volume.specs.declared.fault.GetFault.{GetFault}
 use Rattle.dat_volume.specs.declared.fault.GetFault.TheVariants as get_fault
 use Rattle.dat_volume.specs.Needles.{Damage, damage_of, bytes_from, header_damage, reading_damage, first_damage, record_damage, IsRecordAt, IsCookieAt, TellsDamage, BeginsWith, IsNeedle, IsCookie, IsNoDamage}

@@ -7,11 +7,11 @@ use Rattle.site_model.specs.Touches.{touches_look, firm_left}
 use Rattle.volume_forms.specs.Forms.{entries}
 use Rattle.needle_record.specs.Records.{Index, end_of}
 use Rattle.image_meaning.specs.Plain.{kept, kept_records, FollowsRecords, IsExact}
-use Rattle.image_meaning.specs.PlainLaws.{has_super-long, entries-take, exact_follows, exact_kept_records, cut_exact, cut_dat-follows, cut_dat-kept_records, cut_index-follows, cut_index-kept_records}
+use Rattle.image_meaning.specs.Laws.Plain.{has_super-long, entries-take, exact_follows, exact_kept_records, cut_exact, cut_dat-follows, cut_dat-kept_records, cut_index-follows, cut_index-kept_records}
 use Rattle.dat_volume.specs.declared.volume.DatVolume.{DatVolume}
 use Rattle.dat_volume.specs.Places.{dat_place, idx_place, dat_in, idx_in, KeepsRecords}
 use Rattle.dat_volume.specs.Opening.{tested, end_by, index_by, KeepsLengths, IsCutOrNot, Opens, IsOpened, IsLoaded, Trims}
-use Rattle.dat_volume.specs.OpeningLaws.{tested-keeps, tested-parts, tested-super, tested-dat, tested-idx, counted-kept, follows-end, follows-index}
+use Rattle.dat_volume.specs.Laws.Opening.{tested-keeps, tested-parts, tested-super, tested-dat, tested-idx, counted-kept, follows-end, follows-index}
 use Rattle.dat_volume.specs.Shortening.{ShortensBoth, AreShortened}
 
 -- ---- names

@@ -7,10 +7,10 @@ use Rattle.wire_num.specs.Numbers.{number_of}
 use Rattle.world_model.specs.declared.types.What.{What}
 use Rattle.volume_forms.specs.declared.Entry.{Entry}
 use Rattle.volume_forms.specs.Kept.{fields_size, entry_end, entry_eq}
-use Rattle.volume_forms.specs.KeptLaws.{entry_eq-itself}
+use Rattle.volume_forms.specs.Laws.Kept.{entry_eq-itself}
 use Rattle.needle_record.specs.declared.Record.{Record}
 use Rattle.needle_record.specs.Spelling.{record_size, length_of_record}
-use Rattle.needle_record.specs.SpellingLaws.{found-whole, header-take}
+use Rattle.needle_record.specs.Laws.Spelling.{found-whole, header-take}
 use Rattle.needle_record.specs.Reading.{needle_at, size_at, HasHeader}
 use Rattle.needle_record.specs.Records.{max_dat, entry_of}
 use Rattle.site_model.specs.declared.error.OpenFault.{OpenFault}
@@ -19,7 +19,7 @@ use Rattle.dat_volume.specs.declared.fault.GetFault.TheVariants as get_fault
 use Rattle.dat_volume.specs.Needles.{Damage, damage_of, bytes_from, header_damage, reading_damage, first_damage, record_damage, TellsDamage}
 use Rattle.dat_volume.specs.Reading.{front_damage}
 use Rattle.dat_volume.specs.Opening.{is_size, is_entry_of, has_record}
-use Rattle.dat_volume.specs.OpeningLaws.{HasFound, has_found}
+use Rattle.dat_volume.specs.Laws.Opening.{HasFound, has_found}
 use Rattle.dat_volume.specs.Chains.{is_size-entry}
 use Rattle.dat_volume.specs.Scanning.{unless_damaged}
 use Rattle.dat_volume.proofs.Heads.{front_taken, header_within}

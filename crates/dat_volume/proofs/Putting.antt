@@ -8,25 +8,25 @@ use Rattle.std.proofs.lemmas.List.{append-nil}
 use Rattle.site_model.specs.Disk.{Place, Files, Image, firm_file, bytes_of, Disk}
 use Rattle.site_model.specs.Leaves.{starts, weaker}
 use Rattle.site_model.specs.Touches.{touches_none}
-use Rattle.site_model.specs.Counts.{Counts, TakesCalls}
-use Rattle.site_model.specs.CountLaws.{takes_within}
-use Rattle.whole_file.specs.Pieces.{pieces_of, widest_piece}
+use Rattle.site_model.specs.Counts.{Counts, TakesCalls, widest_piece}
+use Rattle.site_model.specs.Laws.Count.{takes_within}
+use Rattle.whole_file.specs.Pieces.{pieces_of}
 use Rattle.wire_num.specs.Numbers as numbers
-use Rattle.wire_num.specs.NumberLaws.{length-bytes_of}
+use Rattle.wire_num.specs.Laws.Number.{length-bytes_of}
 use Rattle.world_model.specs.Sizes.{Fits}
 use Rattle.volume_forms.specs.declared.Entry.{Entry}
 use Rattle.volume_forms.specs.Forms.{entry_bytes}
 use Rattle.needle_record.specs.declared.Record.{Record}
 use Rattle.needle_record.specs.Spelling.{HasRoom, canonical, length_of_record}
-use Rattle.needle_record.specs.SpellingLaws.{canonical-reads}
+use Rattle.needle_record.specs.Laws.Spelling.{canonical-reads}
 use Rattle.needle_record.specs.Records.{Placed, records_from, max_dat, entry_of}
-use Rattle.needle_record.specs.RecordsLaws.{records_from-found, records_from-nothing}
+use Rattle.needle_record.specs.Laws.Records.{records_from-found, records_from-nothing}
 use Rattle.image_meaning.specs.Plain.{kept_records, IsExact}
-use Rattle.image_meaning.specs.PlainLaws.{exact_push, torn_follows, torn_dat_follows}
+use Rattle.image_meaning.specs.Laws.Plain.{exact_push, torn_follows, torn_dat_follows}
 use Rattle.image_meaning.specs.Laws.Torn.{kept_records-torn, kept_records-before}
 use Rattle.dat_volume.specs.Places.{dat_place, idx_place, KeepsRecords}
 use Rattle.dat_volume.specs.Writes.{Puts, IsPut}
-use Rattle.dat_volume.specs.WriteLaws.{firm_keeps}
+use Rattle.dat_volume.specs.Laws.Write.{firm_keeps}
 use Rattle.dat_volume.specs.Writing.{HasMore, AppendsRecord, IsAppended}
 
 pub length-entry_bytes : (e : Entry) → length (entry_bytes e) ≡ 16

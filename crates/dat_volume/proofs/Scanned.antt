@@ -8,7 +8,7 @@ use Rattle.std.proofs.lemmas.Bool.{ne_eqb, eq-eqb, eqb-true, eqb-false}
 use Rattle.volume_forms.specs.declared.Entry.{Entry}
 use Rattle.volume_forms.specs.Forms.{entries, entries_within, entry_at}
 use Rattle.volume_forms.specs.Kept.{entry_end, kept_length}
-use Rattle.volume_forms.specs.EntryLaws.{entries-append, length-entries}
+use Rattle.volume_forms.specs.Laws.Entry.{entries-append, length-entries}
 use Rattle.dat_volume.specs.declared.chain.Chain.{Chain}
 use Rattle.dat_volume.specs.Opening.{is_size, chained}
 use Rattle.dat_volume.specs.Scanning.{no_chain, with_entry, with_entries, HasChain}

@@ -5,14 +5,14 @@ use Rattle.std.proofs.lemmas.List.{drop-drop}
 use Rattle.std.proofs.lemmas.Bool.{eqb-true, eqb-false, eq-eqb, lt-ltb, le-leb, leb-true, ltb-true, ltb-false, false≢true}
 use Rattle.volume_forms.specs.declared.Entry.{Entry}
 use Rattle.volume_forms.specs.Kept.{entry_eq, entry_end, kept_count}
-use Rattle.volume_forms.specs.KeptLaws.{same_entry, kept_count-none}
+use Rattle.volume_forms.specs.Laws.Kept.{same_entry, kept_count-none}
 use Rattle.needle_record.specs.declared.Record.{Record}
 use Rattle.needle_record.specs.declared.NeedleFault.{NeedleFault}
 use Rattle.needle_record.specs.Spelling.{record_size}
 use Rattle.needle_record.specs.Reading.{needle_at}
 use Rattle.needle_record.specs.Records.{max_dat, records_from, entry_of}
-use Rattle.needle_record.specs.RecordsLaws.{records_from-found, records_from-fault, records_from-past, entry_of-place, entry_of-end}
-use Rattle.needle_record.specs.SpellingLaws.{found-length, length_of_record-in_eights}
+use Rattle.needle_record.specs.Laws.Records.{records_from-found, records_from-fault, records_from-past, entry_of-place, entry_of-end}
+use Rattle.needle_record.specs.Laws.Spelling.{found-length, length_of_record-in_eights}
 use Rattle.dat_volume.specs.Opening.{is_size, chained, is_entry_of, has_record, has_record_of}
 
 pub both_hold : (a b : Bool) → (a && b) ≡ true → (a ≡ true) × (b ≡ true)

@@ -9,7 +9,7 @@ use Rattle.dat_volume.specs.declared.fault.GetFault.TheVariants as get_fault
 use Rattle.dat_volume.specs.declared.chain.Chain.{Chain}
 use Rattle.dat_volume.specs.declared.opening.Kept.{Kept}
 use Rattle.dat_volume.specs.Opening.{is_size, chained, has_record_of, accepted}
-use Rattle.dat_volume.specs.OpeningLaws.{PassesEntries, HasEarlier}
+use Rattle.dat_volume.specs.Laws.Opening.{PassesEntries, HasEarlier}
 
 abbrev pub no_chain : Chain
 no_chain = record { count = 0; chained = 0; last = None; before = None; earlier = None }

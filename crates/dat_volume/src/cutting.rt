@@ -1,7 +1,7 @@
 // Files cut to the lengths to keep.
 ghost use Rattle.std.specs.Prelude.{◌≡◌, ◌≢◌, ◌<◌, IsTrue, IsErr, OnOk};
 ghost use Rattle.site_model.specs.Disk.{cut_to};
-ghost use Rattle.site_model.specs.Counts.{HasCause};
+ghost use Rattle.site_model.specs.Counts.{CallsAt};
 ghost use Rattle.dat_volume.specs.Shortening.{Shortens, ShortensBoth, AreShortened};
 
 use site_model::{Failed, Site};
@@ -17,11 +17,12 @@ pub(crate) fn cut_both<T: Site>(
 ) -> Result<(), Failed>
     requires server { server < T.servers site.old }
     requires apart { dat.now ≢ idx.now }
-    ensures effect { IsTrue T.tells → ShortensBoth (server, dat.now) (server, idx.now) dat_length idx_length (T.disk site.old) (T.disk site.new) }
-    ensures done { OnOk result (IsTrue T.tells → AreShortened (server, dat.now) (server, idx.now) dat_length idx_length (T.disk site.old).files (T.disk site.new).files) }
-    ensures cause { HasCause server (T.counts site.old) (T.counts site.new) (IsErr result) }
-    ensures servers { T.servers site.new ≡ T.servers site.old }
-    ensures says { (T.counts site.new).say_faults ≡ (T.counts site.old).say_faults }
+    ensures effect { IsTrue T.tells → ShortensBoth (server, dat.now) (server, idx.now) dat_length idx_length
+        (T.disk site.old) (T.disk site.new) }
+    ensures done { OnOk result (IsTrue T.tells
+        → AreShortened (server, dat.now) (server, idx.now) dat_length idx_length (T.disk site.old).files
+        (T.disk site.new).files) }
+    ensures runs { CallsAt T.counts T.servers server site.old site.new (IsErr result) }
 {
     cut_longer(site, server, dat, dat_length)?;
     cut_longer(site, server, idx, idx_length)?;
@@ -32,10 +33,10 @@ pub(crate) fn cut_both<T: Site>(
 fn cut_longer<T: Site>(site: &mut T, server: u32, name: &str, length: u64) -> Result<(), Failed>
     requires server { server < T.servers site.old }
     ensures effect { IsTrue T.tells → Shortens (server, name.now) length (T.disk site.old) (T.disk site.new) }
-    ensures done { OnOk result (IsTrue T.tells → (T.disk site.new).files (server, name.now) ≡ cut_to length ((T.disk site.old).files (server, name.now))) }
-    ensures cause { HasCause server (T.counts site.old) (T.counts site.new) (IsErr result) }
-    ensures servers { T.servers site.new ≡ T.servers site.old }
-    ensures says { (T.counts site.new).say_faults ≡ (T.counts site.old).say_faults }
+    ensures done { OnOk result (IsTrue T.tells
+        → (T.disk site.new).files (server, name.now)
+        ≡ cut_to length ((T.disk site.old).files (server, name.now))) }
+    ensures runs { CallsAt T.counts T.servers server site.old site.new (IsErr result) }
 {
     // Asked for what it promises of files: none has more firm bytes than bytes, so one that isn't longer is as if cut.
     let _servers = site.servers();

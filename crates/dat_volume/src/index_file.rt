@@ -1,7 +1,7 @@
 // An index, read in pieces of whole entries.
 ghost use Rattle.std.specs.Prelude.{◌≡◌, ◌+◌, ◌-◌, ◌*◌, ◌/◌, ◌%◌, ◌^◌, ◌<◌, ◌≤◌, ◌⊎◌, min, IsTrue, IfOk, IfErr, IsErr, IsErrOf, OnOk, length, take, drop};
 ghost use Rattle.site_model.specs.Disk.{bytes_of, length_of};
-ghost use Rattle.site_model.specs.Counts.{HasCause};
+ghost use Rattle.site_model.specs.Counts.{CallsAt, widest_piece};
 ghost use Rattle.volume_forms.specs.Forms.{entries};
 ghost use Rattle.dat_volume.specs.Opening.{index_by, index_by_from};
 ghost use Rattle.dat_volume.specs.Scanning.{no_chain, with_entries};
@@ -35,13 +35,14 @@ pub(crate) fn scan<T: Site>(
     requires within { IsTrue T.tells → end ≤ length_of ((T.disk site.old).files (server, name.now)) }
     requires whole { end % 16 ≡ 0 }
     requires room { (0 < length buffer.old) × (length buffer.old % 16 ≡ 0) }
-    ensures chain { IfOk result (λ chain. IsTrue T.tells → chain ≡ with_entries no_chain (entries (take end (bytes_of ((T.disk site.old).files (server, name.now)))))) }
+    requires narrow { length buffer.old ≤ widest_piece }
+    ensures chain { IfOk result (λ chain. IsTrue T.tells
+        → chain ≡ with_entries no_chain
+        (entries (take end (bytes_of ((T.disk site.old).files (server, name.now)))))) }
     ensures count { IfOk result (λ chain. 16 * chain.count ≡ end) }
     ensures same { IsTrue T.tells → T.disk site.new ≡ T.disk site.old }
-    ensures cause { HasCause server (T.counts site.old) (T.counts site.new) (IsErr result) }
+    ensures runs { CallsAt T.counts T.servers server site.old site.new (IsErr result) }
     ensures blame { IfErr result (λ fault. fault.server ≡ server) }
-    ensures servers { T.servers site.new ≡ T.servers site.old }
-    ensures says { (T.counts site.new).say_faults ≡ (T.counts site.old).say_faults }
 {
     let mut chain = Chain::new();
     let mut at = 0;
@@ -64,12 +65,12 @@ pub(crate) fn read_index<T: Site>(
     requires server { server < T.servers site.old }
     requires within { IsTrue T.tells → end ≤ length_of ((T.disk site.old).files (server, name.now)) }
     requires whole { end % 16 ≡ 0 }
-    ensures index { IfOk result (λ index. IsTrue T.tells → index ≡ index_by (entries (take end (bytes_of ((T.disk site.old).files (server, name.now)))))) }
+    ensures index { IfOk result (λ index. IsTrue T.tells
+        → index ≡ index_by (entries (take end (bytes_of ((T.disk site.old).files (server, name.now)))))) }
     ensures same { IsTrue T.tells → T.disk site.new ≡ T.disk site.old }
-    ensures cause { HasCause server (T.counts site.old) (T.counts site.new) (IsErrOf result (OpenFault.Fault server)) }
+    ensures runs { CallsAt T.counts T.servers server site.old site.new
+        (IsErrOf result (OpenFault.Fault server)) }
     ensures blame { IfErr result (λ fault. (fault ≡ OpenFault.Memory) ⊎ (fault ≡ OpenFault.Fault server)) }
-    ensures servers { T.servers site.new ≡ T.servers site.old }
-    ensures says { (T.counts site.new).say_faults ≡ (T.counts site.old).say_faults }
 {
     let mut buffer = piece_buffer(alloc)?;
     index_entries(alloc, site, server, name, end, &mut buffer)
@@ -87,12 +88,13 @@ fn index_entries<T: Site>(
     requires within { IsTrue T.tells → end ≤ length_of ((T.disk site.old).files (server, name.now)) }
     requires whole { end % 16 ≡ 0 }
     requires room { (0 < length buffer.old) × (length buffer.old % 16 ≡ 0) }
-    ensures index { IfOk result (λ index. IsTrue T.tells → index ≡ index_by (entries (take end (bytes_of ((T.disk site.old).files (server, name.now)))))) }
+    requires narrow { length buffer.old ≤ widest_piece }
+    ensures index { IfOk result (λ index. IsTrue T.tells
+        → index ≡ index_by (entries (take end (bytes_of ((T.disk site.old).files (server, name.now)))))) }
     ensures same { IsTrue T.tells → T.disk site.new ≡ T.disk site.old }
-    ensures cause { HasCause server (T.counts site.old) (T.counts site.new) (IsErrOf result (OpenFault.Fault server)) }
+    ensures runs { CallsAt T.counts T.servers server site.old site.new
+        (IsErrOf result (OpenFault.Fault server)) }
     ensures blame { IfErr result (λ fault. (fault ≡ OpenFault.Memory) ⊎ (fault ≡ OpenFault.Fault server)) }
-    ensures servers { T.servers site.new ≡ T.servers site.old }
-    ensures says { (T.counts site.new).say_faults ≡ (T.counts site.old).say_faults }
 {
     let mut index = NeedleMap::new(alloc);
     let mut at = 0;
@@ -116,14 +118,15 @@ fn read_piece<T: Site>(
     requires server { server < T.servers site.old }
     requires some { at < end }
     requires within { IsTrue T.tells → end ≤ length_of ((T.disk site.old).files (server, name.now)) }
+    requires narrow { length buffer.old ≤ widest_piece }
     ensures count { IfOk result (λ count. count ≡ min (length buffer.old) (end - at)) }
     ensures room { length buffer.new ≡ length buffer.old }
-    ensures bytes { IfOk result (λ count. IsTrue T.tells → take count buffer.new ≡ take count (drop at (bytes_of ((T.disk site.old).files (server, name.now))))) }
+    ensures bytes { IfOk result (λ count. IsTrue T.tells
+        → take count buffer.new
+        ≡ take count (drop at (bytes_of ((T.disk site.old).files (server, name.now))))) }
     ensures same { IsTrue T.tells → T.disk site.new ≡ T.disk site.old }
-    ensures cause { HasCause server (T.counts site.old) (T.counts site.new) (IsErr result) }
+    ensures runs { CallsAt T.counts T.servers server site.old site.new (IsErr result) }
     ensures blame { IfErr result (λ fault. fault.server ≡ server) }
-    ensures servers { T.servers site.new ≡ T.servers site.old }
-    ensures says { (T.counts site.new).say_faults ≡ (T.counts site.old).say_faults }
 {
     let count = buffer.len().min((end - at) as usize);
     match site.read(server, name, at, &mut buffer[..count]) {

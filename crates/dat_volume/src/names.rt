@@ -8,7 +8,8 @@ use std::alloc::{AllocError, Global};
 
 pub(crate) fn final_name(alloc: Global, volume: u32, kind: Kind) -> Result<String, AllocError>
     requires { IsKind kind }
-    ensures { IfOk result (λ name. string_bytes name ≡ name_bytes (record { volume = volume; kind = kind; temp = false })) }
+    ensures { IfOk result (λ name. string_bytes name
+        ≡ name_bytes (record { volume = volume; kind = kind; temp = false })) }
 {
     spell(
         alloc,
@@ -22,7 +23,8 @@ pub(crate) fn final_name(alloc: Global, volume: u32, kind: Kind) -> Result<Strin
 
 pub(crate) fn temp_name(alloc: Global, volume: u32, kind: Kind) -> Result<String, AllocError>
     requires { IsKind kind }
-    ensures { IfOk result (λ name. string_bytes name ≡ name_bytes (record { volume = volume; kind = kind; temp = true })) }
+    ensures { IfOk result (λ name. string_bytes name
+        ≡ name_bytes (record { volume = volume; kind = kind; temp = true })) }
 {
     spell(
         alloc,

@@ -2,11 +2,11 @@
 ghost use Rattle.std.specs.Option.{option_map_or};
 ghost use Rattle.std.specs.Prelude.{◌≡◌, ◌⊎◌, ◌*◌, ◌<◌, ◌≤◌, ◌^◌, List, IsTrue, IfSome, IfOk, IfErr, IsErr, IsErrOf, MatchBool, Ok, true};
 ghost use Rattle.site_model.specs.Disk.{bytes_of, length_of};
-ghost use Rattle.site_model.specs.Counts.{HasCause};
+ghost use Rattle.site_model.specs.Counts.{CallsAt};
 ghost use Rattle.volume_forms.specs.declared.Entry.{Entry};
 ghost use Rattle.volume_forms.specs.Forms.{has_super};
 ghost use Rattle.dat_volume.specs.Opening.{has_record, last_counts, counted, tested, end_by, Blames, TellsCount, TellsRule};
-ghost use Rattle.dat_volume.specs.OpeningLaws.{PassesEntries};
+ghost use Rattle.dat_volume.specs.Laws.Opening.{PassesEntries};
 ghost use Rattle.dat_volume.specs.Scanning.{HasChain, FailsEntries, IsAccepted, unless_damaged};
 
 use crate::GetFault;
@@ -43,13 +43,17 @@ pub(crate) fn examine<T: Site>(
     idx: &str,
 ) -> Result<Kept, OpenFault>
     requires server { server < T.servers site.old }
-    ensures kept { IfOk result (λ kept. IsTrue T.tells → (tested (bytes_of ((T.disk site.old).files (server, dat.now))) (bytes_of ((T.disk site.old).files (server, idx.now))) ≡ Ok kept.count) × (kept.end ≡ end_by (bytes_of ((T.disk site.old).files (server, idx.now))) kept.count)) }
+    ensures kept { IfOk result (λ kept. IsTrue T.tells
+        → (tested (bytes_of ((T.disk site.old).files (server, dat.now)))
+        (bytes_of ((T.disk site.old).files (server, idx.now))) ≡ Ok kept.count)
+        × (kept.end ≡ end_by (bytes_of ((T.disk site.old).files (server, idx.now))) kept.count)) }
     ensures fits { IfOk result (λ kept. 16 * kept.count < 2 ^ 64) }
-    ensures unsound { IfErr result (λ fault. Blames server volume fault × (IsTrue T.tells → TellsRule volume (bytes_of ((T.disk site.old).files (server, dat.now))) (bytes_of ((T.disk site.old).files (server, idx.now))) fault)) }
+    ensures unsound { IfErr result (λ fault. Blames server volume fault
+        × (IsTrue T.tells → TellsRule volume (bytes_of ((T.disk site.old).files (server, dat.now)))
+        (bytes_of ((T.disk site.old).files (server, idx.now))) fault)) }
     ensures same { IsTrue T.tells → T.disk site.new ≡ T.disk site.old }
-    ensures cause { HasCause server (T.counts site.old) (T.counts site.new) (IsErrOf result (OpenFault.Fault server)) }
-    ensures servers { T.servers site.new ≡ T.servers site.old }
-    ensures says { (T.counts site.new).say_faults ≡ (T.counts site.old).say_faults }
+    ensures runs { CallsAt T.counts T.servers server site.old site.new
+        (IsErrOf result (OpenFault.Fault server)) }
 {
     let kept = count_entries(alloc, site, server, volume, dat, idx)?;
     if !has_super(site, server, dat)? {
@@ -71,13 +75,17 @@ pub(crate) fn count_entries<T: Site>(
     idx: &str,
 ) -> Result<Kept, OpenFault>
     requires server { server < T.servers site.old }
-    ensures kept { IfOk result (λ kept. IsTrue T.tells → (counted (bytes_of ((T.disk site.old).files (server, dat.now))) (bytes_of ((T.disk site.old).files (server, idx.now))) ≡ Ok kept.count) × (kept.end ≡ end_by (bytes_of ((T.disk site.old).files (server, idx.now))) kept.count)) }
+    ensures kept { IfOk result (λ kept. IsTrue T.tells
+        → (counted (bytes_of ((T.disk site.old).files (server, dat.now)))
+        (bytes_of ((T.disk site.old).files (server, idx.now))) ≡ Ok kept.count)
+        × (kept.end ≡ end_by (bytes_of ((T.disk site.old).files (server, idx.now))) kept.count)) }
     ensures fits { IfOk result (λ kept. 16 * kept.count < 2 ^ 64) }
-    ensures unsound { IfErr result (λ fault. Blames server volume fault × (IsTrue T.tells → TellsCount volume (bytes_of ((T.disk site.old).files (server, dat.now))) (bytes_of ((T.disk site.old).files (server, idx.now))) fault)) }
+    ensures unsound { IfErr result (λ fault. Blames server volume fault
+        × (IsTrue T.tells → TellsCount volume (bytes_of ((T.disk site.old).files (server, dat.now)))
+        (bytes_of ((T.disk site.old).files (server, idx.now))) fault)) }
     ensures same { IsTrue T.tells → T.disk site.new ≡ T.disk site.old }
-    ensures cause { HasCause server (T.counts site.old) (T.counts site.new) (IsErrOf result (OpenFault.Fault server)) }
-    ensures servers { T.servers site.new ≡ T.servers site.old }
-    ensures says { (T.counts site.new).say_faults ≡ (T.counts site.old).say_faults }
+    ensures runs { CallsAt T.counts T.servers server site.old site.new
+        (IsErrOf result (OpenFault.Fault server)) }
 {
     let size = size_of(site, server, idx)?;
     let mut buffer = piece_buffer(alloc)?;
@@ -101,13 +109,13 @@ fn accept<T: Site>(
     chain: Chain,
 ) -> Result<Option<Kept>, OpenFault>
     requires server { server < T.servers site.old }
-    ensures kept { IfOk result (λ found. IsTrue T.tells → (es : List Entry) → HasChain es chain → IsAccepted (bytes_of ((T.disk site.old).files (server, dat.now))) es found) }
+    ensures kept { IfOk result (λ found. IsTrue T.tells → (es : List Entry) → HasChain es chain
+        → IsAccepted (bytes_of ((T.disk site.old).files (server, dat.now))) es found) }
     ensures fewer { IfOk result (λ found. IfSome found (λ kept. kept.count ≤ chain.count)) }
     ensures same { IsTrue T.tells → T.disk site.new ≡ T.disk site.old }
-    ensures cause { HasCause server (T.counts site.old) (T.counts site.new) (IsErrOf result (OpenFault.Fault server)) }
+    ensures runs { CallsAt T.counts T.servers server site.old site.new
+        (IsErrOf result (OpenFault.Fault server)) }
     ensures blame { IfErr result (λ fault. (fault ≡ OpenFault.Memory) ⊎ (fault ≡ OpenFault.Fault server)) }
-    ensures servers { T.servers site.new ≡ T.servers site.old }
-    ensures says { (T.counts site.new).say_faults ≡ (T.counts site.old).say_faults }
 {
     if !passes_entries(alloc, site, server, dat, chain)? {
         return Ok(None);
@@ -136,12 +144,13 @@ fn passes_entries<T: Site>(
     chain: Chain,
 ) -> Result<bool, OpenFault>
     requires server { server < T.servers site.old }
-    ensures passes { IfOk result (λ passes. IsTrue T.tells → (es : List Entry) → HasChain es chain → MatchBool passes (PassesEntries (bytes_of ((T.disk site.old).files (server, dat.now))) es) (FailsEntries (bytes_of ((T.disk site.old).files (server, dat.now))) es)) }
+    ensures passes { IfOk result (λ passes. IsTrue T.tells → (es : List Entry) → HasChain es chain
+        → MatchBool passes (PassesEntries (bytes_of ((T.disk site.old).files (server, dat.now))) es)
+        (FailsEntries (bytes_of ((T.disk site.old).files (server, dat.now))) es)) }
     ensures same { IsTrue T.tells → T.disk site.new ≡ T.disk site.old }
-    ensures cause { HasCause server (T.counts site.old) (T.counts site.new) (IsErrOf result (OpenFault.Fault server)) }
+    ensures runs { CallsAt T.counts T.servers server site.old site.new
+        (IsErrOf result (OpenFault.Fault server)) }
     ensures blame { IfErr result (λ fault. (fault ≡ OpenFault.Memory) ⊎ (fault ≡ OpenFault.Fault server)) }
-    ensures servers { T.servers site.new ≡ T.servers site.old }
-    ensures says { (T.counts site.new).say_faults ≡ (T.counts site.old).say_faults }
 {
     if chain.chained < chain.count.saturating_sub(1) {
         return Ok(false);
@@ -158,12 +167,12 @@ fn last_counts<T: Site>(
     chain: Chain,
 ) -> Result<bool, OpenFault>
     requires server { server < T.servers site.old }
-    ensures counts { IfOk result (λ counts. IsTrue T.tells → (es : List Entry) → HasChain es chain → counts ≡ last_counts (bytes_of ((T.disk site.old).files (server, dat.now))) es) }
+    ensures counts { IfOk result (λ counts. IsTrue T.tells → (es : List Entry) → HasChain es chain
+        → counts ≡ last_counts (bytes_of ((T.disk site.old).files (server, dat.now))) es) }
     ensures same { IsTrue T.tells → T.disk site.new ≡ T.disk site.old }
-    ensures cause { HasCause server (T.counts site.old) (T.counts site.new) (IsErrOf result (OpenFault.Fault server)) }
+    ensures runs { CallsAt T.counts T.servers server site.old site.new
+        (IsErrOf result (OpenFault.Fault server)) }
     ensures blame { IfErr result (λ fault. (fault ≡ OpenFault.Memory) ⊎ (fault ≡ OpenFault.Fault server)) }
-    ensures servers { T.servers site.new ≡ T.servers site.old }
-    ensures says { (T.counts site.new).say_faults ≡ (T.counts site.old).say_faults }
 {
     match chain.last {
         Some(entry) if chain.chained == chain.count => {
@@ -182,12 +191,13 @@ fn has_record_if_any<T: Site>(
     entry: Option<Entry>,
 ) -> Result<bool, OpenFault>
     requires server { server < T.servers site.old }
-    ensures has { IfOk result (λ has. IsTrue T.tells → has ≡ option_map_or (has_record (bytes_of ((T.disk site.old).files (server, dat.now)))) entry true) }
+    ensures has { IfOk result (λ has. IsTrue T.tells
+        → has ≡ option_map_or (has_record (bytes_of ((T.disk site.old).files (server, dat.now)))) entry
+        true) }
     ensures same { IsTrue T.tells → T.disk site.new ≡ T.disk site.old }
-    ensures cause { HasCause server (T.counts site.old) (T.counts site.new) (IsErrOf result (OpenFault.Fault server)) }
+    ensures runs { CallsAt T.counts T.servers server site.old site.new
+        (IsErrOf result (OpenFault.Fault server)) }
     ensures blame { IfErr result (λ fault. (fault ≡ OpenFault.Memory) ⊎ (fault ≡ OpenFault.Fault server)) }
-    ensures servers { T.servers site.new ≡ T.servers site.old }
-    ensures says { (T.counts site.new).say_faults ≡ (T.counts site.old).say_faults }
 {
     match entry {
         Some(entry) => has_record(alloc, site, server, dat, entry),
@@ -204,12 +214,12 @@ fn has_record<T: Site>(
     entry: Entry,
 ) -> Result<bool, OpenFault>
     requires server { server < T.servers site.old }
-    ensures has { IfOk result (λ has. IsTrue T.tells → has ≡ has_record (bytes_of ((T.disk site.old).files (server, dat.now))) entry) }
+    ensures has { IfOk result (λ has. IsTrue T.tells
+        → has ≡ has_record (bytes_of ((T.disk site.old).files (server, dat.now))) entry) }
     ensures same { IsTrue T.tells → T.disk site.new ≡ T.disk site.old }
-    ensures cause { HasCause server (T.counts site.old) (T.counts site.new) (IsErrOf result (OpenFault.Fault server)) }
+    ensures runs { CallsAt T.counts T.servers server site.old site.new
+        (IsErrOf result (OpenFault.Fault server)) }
     ensures blame { IfErr result (λ fault. (fault ≡ OpenFault.Memory) ⊎ (fault ≡ OpenFault.Fault server)) }
-    ensures servers { T.servers site.new ≡ T.servers site.old }
-    ensures says { (T.counts site.new).say_faults ≡ (T.counts site.old).say_faults }
 {
     if !has_size(entry) || end_behind(Some(entry)) > MAX_DAT {
         return Ok(false);
@@ -239,12 +249,11 @@ fn unless_damaged(fault: GetFault) -> Result<bool, OpenFault>
 // Whether the data file begins with an accepted super block.
 fn has_super<T: Site>(site: &mut T, server: u32, dat: &str) -> Result<bool, DeviceFault>
     requires server { server < T.servers site.old }
-    ensures block { IfOk result (λ has. IsTrue T.tells → has ≡ has_super (bytes_of ((T.disk site.old).files (server, dat.now)))) }
+    ensures block { IfOk result (λ has. IsTrue T.tells
+        → has ≡ has_super (bytes_of ((T.disk site.old).files (server, dat.now)))) }
     ensures same { IsTrue T.tells → T.disk site.new ≡ T.disk site.old }
-    ensures cause { HasCause server (T.counts site.old) (T.counts site.new) (IsErr result) }
+    ensures runs { CallsAt T.counts T.servers server site.old site.new (IsErr result) }
     ensures blame { IfErr result (λ fault. fault.server ≡ server) }
-    ensures servers { T.servers site.new ≡ T.servers site.old }
-    ensures says { (T.counts site.new).say_faults ≡ (T.counts site.old).say_faults }
 {
     let mut block = [0; SUPER_END as usize];
     if size_of(site, server, dat)? < SUPER_END {
@@ -259,12 +268,11 @@ fn has_super<T: Site>(site: &mut T, server: u32, dat: &str) -> Result<bool, Devi
 // The length of the file. An absent file counts as one without bytes.
 fn size_of<T: Site>(site: &mut T, server: u32, name: &str) -> Result<u64, DeviceFault>
     requires server { server < T.servers site.old }
-    ensures size { IfOk result (λ size. IsTrue T.tells → size ≡ length_of ((T.disk site.old).files (server, name.now))) }
+    ensures size { IfOk result (λ size. IsTrue T.tells
+        → size ≡ length_of ((T.disk site.old).files (server, name.now))) }
     ensures same { IsTrue T.tells → T.disk site.new ≡ T.disk site.old }
-    ensures cause { HasCause server (T.counts site.old) (T.counts site.new) (IsErr result) }
+    ensures runs { CallsAt T.counts T.servers server site.old site.new (IsErr result) }
     ensures blame { IfErr result (λ fault. fault.server ≡ server) }
-    ensures servers { T.servers site.new ≡ T.servers site.old }
-    ensures says { (T.counts site.new).say_faults ≡ (T.counts site.old).say_faults }
 {
     match site.size(server, name) {
         Ok(size) => Ok(size.unwrap_or(0)),

@@ -2,7 +2,7 @@
 ghost use Rattle.std.specs.Prelude.{◌≡◌, ◌+◌, ◌*◌, ◌<◌, ◌≤◌, ◌^◌, IsTrue, IfOk, IfErr, IsErrOf, OnOk, MatchResult, None, Some, Err, length, take, drop};
 ghost use Rattle.wire_num.specs.Numbers.{record_length};
 ghost use Rattle.site_model.specs.Disk.{bytes_of, length_of};
-ghost use Rattle.site_model.specs.Counts.{HasCause};
+ghost use Rattle.site_model.specs.Counts.{CallsAt};
 ghost use Rattle.volume_forms.specs.Kept.{fields_size};
 ghost use Rattle.dat_volume.specs.Causes.{ReadBlamesServer};
 ghost use Rattle.dat_volume.specs.Needles.{bytes_from, header_damage, reading_damage, record_damage, IsRecordAt, IsCookieAt, TellsDamage, HasDifference, IsNoDamage};
@@ -58,12 +58,15 @@ pub(crate) fn record_at<T: Site>(
     entry: Entry,
 ) -> Result<Record, GetFault>
     requires server { server < T.servers site.old }
-    ensures answer { MatchResult result (λ found. IsTrue T.tells → IsRecordAt (bytes_of ((T.disk site.old).files (server, name.now))) (Some entry) (Some found)) (λ fault. HasDifference fault × (IsTrue T.tells → TellsDamage (record_damage (bytes_of ((T.disk site.old).files (server, name.now)))) (Some entry) fault)) }
+    ensures answer { MatchResult result (λ found. IsTrue T.tells
+        → IsRecordAt (bytes_of ((T.disk site.old).files (server, name.now))) (Some entry) (Some found))
+        (λ fault. HasDifference fault
+        × (IsTrue T.tells → TellsDamage
+        (record_damage (bytes_of ((T.disk site.old).files (server, name.now)))) (Some entry) fault)) }
     ensures same { IsTrue T.tells → T.disk site.new ≡ T.disk site.old }
-    ensures cause { HasCause server (T.counts site.old) (T.counts site.new) (IsErrOf result (GetFault.Fault (record { server = server }))) }
+    ensures runs { CallsAt T.counts T.servers server site.old site.new
+        (IsErrOf result (GetFault.Fault (record { server = server }))) }
     ensures blame { IfErr result (ReadBlamesServer server) }
-    ensures servers { T.servers site.new ≡ T.servers site.old }
-    ensures says { (T.counts site.new).say_faults ≡ (T.counts site.old).say_faults }
 {
     let place = place_of(entry);
     let bytes = front_at(alloc, site, server, name, entry, place.length as usize)?;
@@ -82,12 +85,15 @@ pub(crate) fn cookie_at<T: Site>(
     entry: Entry,
 ) -> Result<u32, GetFault>
     requires server { server < T.servers site.old }
-    ensures answer { MatchResult result (λ cookie. IsTrue T.tells → IsCookieAt (bytes_of ((T.disk site.old).files (server, name.now))) (Some entry) (Some cookie)) (λ fault. HasDifference fault × (IsTrue T.tells → TellsDamage (header_damage (bytes_of ((T.disk site.old).files (server, name.now)))) (Some entry) fault)) }
+    ensures answer { MatchResult result (λ cookie. IsTrue T.tells
+        → IsCookieAt (bytes_of ((T.disk site.old).files (server, name.now))) (Some entry) (Some cookie))
+        (λ fault. HasDifference fault
+        × (IsTrue T.tells → TellsDamage
+        (header_damage (bytes_of ((T.disk site.old).files (server, name.now)))) (Some entry) fault)) }
     ensures same { IsTrue T.tells → T.disk site.new ≡ T.disk site.old }
-    ensures cause { HasCause server (T.counts site.old) (T.counts site.new) (IsErrOf result (GetFault.Fault (record { server = server }))) }
+    ensures runs { CallsAt T.counts T.servers server site.old site.new
+        (IsErrOf result (GetFault.Fault (record { server = server }))) }
     ensures blame { IfErr result (ReadBlamesServer server) }
-    ensures servers { T.servers site.new ≡ T.servers site.old }
-    ensures says { (T.counts site.new).say_faults ≡ (T.counts site.old).say_faults }
 {
     let bytes = front_at(alloc, site, server, name, entry, HEADER)?;
     Ok(read_header(&bytes).cookie)
@@ -105,13 +111,19 @@ fn front_at<T: Site>(
     requires server { server < T.servers site.old }
     requires header { 16 ≤ count }
     requires within { count ≤ record_length (fields_size entry.size) }
-    ensures front { IfOk result (λ bytes. (length bytes.items ≡ count) × (front_damage bytes.items entry ≡ None)) }
-    ensures answer { MatchResult result (λ bytes. IsTrue T.tells → (bytes.items ≡ take count (bytes_from (bytes_of ((T.disk site.old).files (server, name.now))) entry)) × (header_damage (bytes_of ((T.disk site.old).files (server, name.now))) entry ≡ None)) (λ fault. HasDifference fault × (IsTrue T.tells → TellsDamage (header_damage (bytes_of ((T.disk site.old).files (server, name.now)))) (Some entry) fault)) }
+    ensures front { IfOk result (λ bytes. (length bytes.items ≡ count)
+        × (front_damage bytes.items entry ≡ None)) }
+    ensures answer { MatchResult result (λ bytes. IsTrue T.tells
+        → (bytes.items ≡ take count
+        (bytes_from (bytes_of ((T.disk site.old).files (server, name.now))) entry))
+        × (header_damage (bytes_of ((T.disk site.old).files (server, name.now))) entry
+        ≡ None)) (λ fault. HasDifference fault
+        × (IsTrue T.tells → TellsDamage
+        (header_damage (bytes_of ((T.disk site.old).files (server, name.now)))) (Some entry) fault)) }
     ensures same { IsTrue T.tells → T.disk site.new ≡ T.disk site.old }
-    ensures cause { HasCause server (T.counts site.old) (T.counts site.new) (IsErrOf result (GetFault.Fault (record { server = server }))) }
+    ensures runs { CallsAt T.counts T.servers server site.old site.new
+        (IsErrOf result (GetFault.Fault (record { server = server }))) }
     ensures blame { IfErr result (ReadBlamesServer server) }
-    ensures servers { T.servers site.new ≡ T.servers site.old }
-    ensures says { (T.counts site.new).say_faults ≡ (T.counts site.old).say_faults }
 {
     let place = place_of(entry);
     check_end(site, server, name, place)?;
@@ -124,13 +136,15 @@ fn front_at<T: Site>(
 fn check_end<T: Site>(site: &mut T, server: u32, name: &str, place: Place) -> Result<(), GetFault>
     requires fits { place.at + place.length < 2 ^ 64 }
     requires server { server < T.servers site.old }
-    ensures within { OnOk result (IsTrue T.tells → place.at + place.length ≤ length_of ((T.disk site.old).files (server, name.now))) }
-    ensures told { IfErr result (λ fault. HasDifference fault × (IsTrue T.tells → TellsEnd (place.at + place.length) (length_of ((T.disk site.old).files (server, name.now))) fault)) }
+    ensures within { OnOk result (IsTrue T.tells
+        → place.at + place.length ≤ length_of ((T.disk site.old).files (server, name.now))) }
+    ensures told { IfErr result (λ fault. HasDifference fault
+        × (IsTrue T.tells → TellsEnd (place.at + place.length)
+        (length_of ((T.disk site.old).files (server, name.now))) fault)) }
     ensures same { IsTrue T.tells → T.disk site.new ≡ T.disk site.old }
-    ensures cause { HasCause server (T.counts site.old) (T.counts site.new) (IsErrOf result (GetFault.Fault (record { server = server }))) }
+    ensures runs { CallsAt T.counts T.servers server site.old site.new
+        (IsErrOf result (GetFault.Fault (record { server = server }))) }
     ensures blame { IfErr result (ReadBlamesServer server) }
-    ensures servers { T.servers site.new ≡ T.servers site.old }
-    ensures says { (T.counts site.new).say_faults ≡ (T.counts site.old).say_faults }
 {
     let length = match site.size(server, name) {
         Ok(size) => size.unwrap_or(0),
@@ -155,13 +169,13 @@ fn range_at<T: Site>(
     requires within { IsTrue T.tells → at + count ≤ length_of ((T.disk site.old).files (server, name.now)) }
     requires server { server < T.servers site.old }
     ensures count { IfOk result (λ bytes. length bytes.items ≡ count) }
-    ensures bytes { IfOk result (λ bytes. IsTrue T.tells → bytes.items ≡ take count (drop at (bytes_of ((T.disk site.old).files (server, name.now))))) }
+    ensures bytes { IfOk result (λ bytes. IsTrue T.tells
+        → bytes.items ≡ take count (drop at (bytes_of ((T.disk site.old).files (server, name.now))))) }
     ensures fault { IfErr result IsNoDamage }
     ensures same { IsTrue T.tells → T.disk site.new ≡ T.disk site.old }
-    ensures cause { HasCause server (T.counts site.old) (T.counts site.new) (IsErrOf result (GetFault.Fault (record { server = server }))) }
+    ensures runs { CallsAt T.counts T.servers server site.old site.new
+        (IsErrOf result (GetFault.Fault (record { server = server }))) }
     ensures blame { IfErr result (ReadBlamesServer server) }
-    ensures servers { T.servers site.new ≡ T.servers site.old }
-    ensures says { (T.counts site.new).say_faults ≡ (T.counts site.old).say_faults }
 {
     match read_range(alloc, site, server, name, at, count) {
         Ok(bytes) => Ok(bytes),

@@ -38,7 +38,7 @@ pub struct DatVolume {
 impl DatVolume {
     ghost use Rattle.std.specs.Prelude.{◌≡◌, ◌≢◌, ◌+◌, ◌<◌, ◌≤◌, ◌^◌, IsTrue, IsSome, IfSome, IfOk, IfErr, IsErrOf, OnOk, OnErr, MatchResult, List, Ok, length};
     ghost use Rattle.std.specs.FinMap.{empty, get};
-    ghost use Rattle.site_model.specs.Counts.{HasCause, TakesCalls};
+    ghost use Rattle.site_model.specs.Counts.{CallsAt, TakesCalls};
     ghost use Rattle.world_model.specs.Sizes.{Fits};
     ghost use Rattle.needle_record.specs.Spelling.{length_of_record};
     ghost use Rattle.needle_record.specs.Records.{Placed, fold_records};
@@ -58,14 +58,15 @@ impl DatVolume {
         volume: u32,
     ) -> Result<DatVolume, VolumeFault>
         requires server { server < T.servers site.old }
-        ensures made { IfOk result (λ made. made ≡ record { server = server; volume = volume; index = empty; used = 8 }) }
+        ensures made { IfOk result (λ made. made
+            ≡ record { server = server; volume = volume; index = empty; used = 8 }) }
         ensures effect { IsTrue T.tells → Creates server volume (T.disk site.old) (T.disk site.new) }
-        ensures done { OnOk result (IsTrue T.tells → NoneStands server volume (T.disk site.old).files → IsCreated server volume (T.disk site.new).files) }
+        ensures done { OnOk result (IsTrue T.tells → NoneStands server volume (T.disk site.old).files
+            → IsCreated server volume (T.disk site.new).files) }
         ensures memory { IsErrOf result VolumeFault.Memory → site.new ≡ site.old }
-        ensures cause { HasCause server (T.counts site.old) (T.counts site.new) (IsErrOf result (VolumeFault.Fault (record { server = server }))) }
+        ensures runs { CallsAt T.counts T.servers server site.old site.new
+            (IsErrOf result (VolumeFault.Fault (record { server = server }))) }
         ensures blame { IfErr result (BlamesServer server) }
-        ensures servers { T.servers site.new ≡ T.servers site.old }
-        ensures says { (T.counts site.new).say_faults ≡ (T.counts site.old).say_faults }
     {
         let names = NewNames {
             dat: final_name(alloc, volume, Kind::Dat)?,
@@ -97,12 +98,15 @@ impl DatVolume {
         requires stands { IsTrue T.tells → IsSome ((T.disk site.old).files (idx_place server volume)) }
         ensures value { IfOk result (λ opened. (opened.server ≡ server) × (opened.volume ≡ volume)) }
         ensures effect { IsTrue T.tells → Opens server volume (T.disk site.old) (T.disk site.new) }
-        ensures done { IfOk result (λ opened. IsTrue T.tells → IsOpened server volume opened (T.disk site.old).files (T.disk site.new).files) }
-        ensures unsound { IfErr result (λ fault. Blames server volume fault × (IsTrue T.tells → TellsRule volume (dat_in (T.disk site.old).files server volume) (idx_in (T.disk site.old).files server volume) fault)) }
-        ensures unchanged { IsTrue T.tells → IfErr result (λ fault. fault ≢ OpenFault.Fault server → T.disk site.new ≡ T.disk site.old) }
-        ensures cause { HasCause server (T.counts site.old) (T.counts site.new) (IsErrOf result (OpenFault.Fault server)) }
-        ensures servers { T.servers site.new ≡ T.servers site.old }
-        ensures says { (T.counts site.new).say_faults ≡ (T.counts site.old).say_faults }
+        ensures done { IfOk result (λ opened. IsTrue T.tells
+            → IsOpened server volume opened (T.disk site.old).files (T.disk site.new).files) }
+        ensures unsound { IfErr result (λ fault. Blames server volume fault
+            × (IsTrue T.tells → TellsRule volume (dat_in (T.disk site.old).files server volume)
+            (idx_in (T.disk site.old).files server volume) fault)) }
+        ensures unchanged { IsTrue T.tells → IfErr result (λ fault. fault ≢ OpenFault.Fault server
+            → T.disk site.new ≡ T.disk site.old) }
+        ensures runs { CallsAt T.counts T.servers server site.old site.new
+            (IsErrOf result (OpenFault.Fault server)) }
     {
         let dat = final_name(alloc, volume, Kind::Dat)?;
         let idx = final_name(alloc, volume, Kind::Idx)?;
@@ -131,12 +135,15 @@ impl DatVolume {
         requires server { server < T.servers site.old }
         requires stands { IsTrue T.tells → IsSome ((T.disk site.old).files (idx_place server volume)) }
         ensures value { IfOk result (λ loaded. (loaded.server ≡ server) × (loaded.volume ≡ volume)) }
-        ensures done { IfOk result (λ loaded. IsTrue T.tells → IsLoaded loaded (dat_in (T.disk site.old).files server volume) (idx_in (T.disk site.old).files server volume)) }
-        ensures unsound { IfErr result (λ fault. Blames server volume fault × (IsTrue T.tells → TellsRule volume (dat_in (T.disk site.old).files server volume) (idx_in (T.disk site.old).files server volume) fault)) }
+        ensures done { IfOk result (λ loaded. IsTrue T.tells
+            → IsLoaded loaded (dat_in (T.disk site.old).files server volume)
+            (idx_in (T.disk site.old).files server volume)) }
+        ensures unsound { IfErr result (λ fault. Blames server volume fault
+            × (IsTrue T.tells → TellsRule volume (dat_in (T.disk site.old).files server volume)
+            (idx_in (T.disk site.old).files server volume) fault)) }
         ensures same { IsTrue T.tells → T.disk site.new ≡ T.disk site.old }
-        ensures cause { HasCause server (T.counts site.old) (T.counts site.new) (IsErrOf result (OpenFault.Fault server)) }
-        ensures servers { T.servers site.new ≡ T.servers site.old }
-        ensures says { (T.counts site.new).say_faults ≡ (T.counts site.old).say_faults }
+        ensures runs { CallsAt T.counts T.servers server site.old site.new
+            (IsErrOf result (OpenFault.Fault server)) }
     {
         let dat = final_name(alloc, volume, Kind::Dat)?;
         let idx = final_name(alloc, volume, Kind::Idx)?;
@@ -162,13 +169,17 @@ impl DatVolume {
         volume: u32,
     ) -> Result<(u64, u64), OpenFault>
         requires server { server < T.servers site.old }
-        requires holder { IsTrue T.tells → IsTrue (has_index (files_of (contents (T.disk site.old).files) volume) server) }
-        ensures lengths { IfOk result (λ lengths. IsTrue T.tells → KeepsLengths (held_dat (T.disk site.old).files server volume) (held_index (T.disk site.old).files server volume) lengths) }
-        ensures unsound { IfErr result (λ fault. Blames server volume fault × (IsTrue T.tells → TellsRule volume (held_dat (T.disk site.old).files server volume) (held_index (T.disk site.old).files server volume) fault)) }
+        requires holder { IsTrue T.tells → IsTrue
+            (has_index (files_of (contents (T.disk site.old).files) volume) server) }
+        ensures lengths { IfOk result (λ lengths. IsTrue T.tells
+            → KeepsLengths (held_dat (T.disk site.old).files server volume)
+            (held_index (T.disk site.old).files server volume) lengths) }
+        ensures unsound { IfErr result (λ fault. Blames server volume fault
+            × (IsTrue T.tells → TellsRule volume (held_dat (T.disk site.old).files server volume)
+            (held_index (T.disk site.old).files server volume) fault)) }
         ensures same { IsTrue T.tells → T.disk site.new ≡ T.disk site.old }
-        ensures cause { HasCause server (T.counts site.old) (T.counts site.new) (IsErrOf result (OpenFault.Fault server)) }
-        ensures servers { T.servers site.new ≡ T.servers site.old }
-        ensures says { (T.counts site.new).say_faults ≡ (T.counts site.old).say_faults }
+        ensures runs { CallsAt T.counts T.servers server site.old site.new
+            (IsErrOf result (OpenFault.Fault server)) }
     {
         let holder = holder_at(alloc, site, server, volume)?;
         let kept = examine(alloc, site, server, volume, &holder.dat, &holder.idx)?;
@@ -184,13 +195,17 @@ impl DatVolume {
         volume: u32,
     ) -> Result<u64, OpenFault>
         requires server { server < T.servers site.old }
-        requires holder { IsTrue T.tells → IsTrue (has_index (files_of (contents (T.disk site.old).files) volume) server) }
-        ensures count { IfOk result (λ count. IsTrue T.tells → counted (held_dat (T.disk site.old).files server volume) (held_index (T.disk site.old).files server volume) ≡ Ok count) }
-        ensures unsound { IfErr result (λ fault. Blames server volume fault × (IsTrue T.tells → TellsCount volume (held_dat (T.disk site.old).files server volume) (held_index (T.disk site.old).files server volume) fault)) }
+        requires holder { IsTrue T.tells → IsTrue
+            (has_index (files_of (contents (T.disk site.old).files) volume) server) }
+        ensures count { IfOk result (λ count. IsTrue T.tells
+            → counted (held_dat (T.disk site.old).files server volume)
+            (held_index (T.disk site.old).files server volume) ≡ Ok count) }
+        ensures unsound { IfErr result (λ fault. Blames server volume fault
+            × (IsTrue T.tells → TellsCount volume (held_dat (T.disk site.old).files server volume)
+            (held_index (T.disk site.old).files server volume) fault)) }
         ensures same { IsTrue T.tells → T.disk site.new ≡ T.disk site.old }
-        ensures cause { HasCause server (T.counts site.old) (T.counts site.new) (IsErrOf result (OpenFault.Fault server)) }
-        ensures servers { T.servers site.new ≡ T.servers site.old }
-        ensures says { (T.counts site.new).say_faults ≡ (T.counts site.old).say_faults }
+        ensures runs { CallsAt T.counts T.servers server site.old site.new
+            (IsErrOf result (OpenFault.Fault server)) }
     {
         let holder = holder_at(alloc, site, server, volume)?;
         let kept = count_entries(alloc, site, server, volume, &holder.dat, &holder.idx)?;
@@ -208,15 +223,19 @@ impl DatVolume {
         idx_length: u64,
     ) -> Result<(), VolumeFault>
         requires server { server < T.servers site.old }
-        requires dat_within { IsTrue T.tells → dat_length ≤ length (dat_in (T.disk site.old).files server volume) }
-        requires idx_within { IsTrue T.tells → idx_length ≤ length (idx_in (T.disk site.old).files server volume) }
-        ensures effect { IsTrue T.tells → Trims server volume dat_length idx_length (T.disk site.old) (T.disk site.new) }
-        ensures done { OnOk result (IsTrue T.tells → AreTrimmed server volume dat_length idx_length (T.disk site.old).files (T.disk site.new).files) }
+        requires dat_within { IsTrue T.tells → dat_length ≤ length
+            (dat_in (T.disk site.old).files server volume) }
+        requires idx_within { IsTrue T.tells → idx_length ≤ length
+            (idx_in (T.disk site.old).files server volume) }
+        ensures effect { IsTrue T.tells → Trims server volume dat_length idx_length (T.disk site.old)
+            (T.disk site.new) }
+        ensures done { OnOk result (IsTrue T.tells
+            → AreTrimmed server volume dat_length idx_length (T.disk site.old).files
+            (T.disk site.new).files) }
         ensures memory { IsErrOf result VolumeFault.Memory → site.new ≡ site.old }
-        ensures cause { HasCause server (T.counts site.old) (T.counts site.new) (IsErrOf result (VolumeFault.Fault (record { server = server }))) }
+        ensures runs { CallsAt T.counts T.servers server site.old site.new
+            (IsErrOf result (VolumeFault.Fault (record { server = server }))) }
         ensures blame { IfErr result (BlamesServer server) }
-        ensures servers { T.servers site.new ≡ T.servers site.old }
-        ensures says { (T.counts site.new).say_faults ≡ (T.counts site.old).say_faults }
     {
         let dat = final_name(alloc, volume, Kind::Dat)?;
         let idx = final_name(alloc, volume, Kind::Idx)?;
@@ -237,16 +256,26 @@ impl DatVolume {
         requires server { self.old.server < T.servers site.old }
         requires fits { IfSome needle.now.content Fits }
         requires room { self.old.used + length_of_record needle.now ≤ 2 ^ 35 }
-        ensures ok { OnOk result (self.new ≡ record { server = self.old.server; volume = self.old.volume; index = index_with self.old.index self.old.used needle.now; used = self.old.used + length_of_record needle.now }) }
+        ensures ok { OnOk result (self.new
+            ≡ record {
+              server = self.old.server;
+              volume = self.old.volume;
+              index = index_with self.old.index
+                  self.old.used needle.now;
+              used = self.old.used + length_of_record needle.now;
+            }) }
         ensures err { OnErr result (self.new ≡ self.old) }
-        ensures effect { IsTrue T.tells → Puts self.old.server self.old.volume self.old.used needle.now (T.disk site.old) (T.disk site.new) }
-        ensures done { OnOk result (IsTrue T.tells → IsPut self.old.server self.old.volume self.old.used needle.now (T.disk site.old).files (T.disk site.new).files) }
+        ensures effect { IsTrue T.tells → Puts self.old.server self.old.volume self.old.used needle.now
+            (T.disk site.old) (T.disk site.new) }
+        ensures done { OnOk result (IsTrue T.tells
+            → IsPut self.old.server self.old.volume self.old.used needle.now (T.disk site.old).files
+            (T.disk site.new).files) }
         ensures memory { IsErrOf result VolumeFault.Memory → site.new ≡ site.old }
-        ensures calls { length_of_record needle.now ≤ 65536 → TakesCalls 4 65536 (T.counts site.old) (T.counts site.new) }
-        ensures cause { HasCause self.old.server (T.counts site.old) (T.counts site.new) (IsErrOf result (VolumeFault.Fault (record { server = self.old.server }))) }
+        ensures calls { length_of_record needle.now ≤ 65536
+            → TakesCalls 4 65536 (T.counts site.old) (T.counts site.new) }
+        ensures runs { CallsAt T.counts T.servers self.old.server site.old site.new
+            (IsErrOf result (VolumeFault.Fault (record { server = self.old.server }))) }
         ensures blame { IfErr result (BlamesServer self.old.server) }
-        ensures servers { T.servers site.new ≡ T.servers site.old }
-        ensures says { (T.counts site.new).say_faults ≡ (T.counts site.old).say_faults }
     {
         let dat = final_name(alloc, self.volume, Kind::Dat)?;
         let idx = final_name(alloc, self.volume, Kind::Idx)?;
@@ -276,13 +305,20 @@ impl DatVolume {
         id: u64,
     ) -> Result<Option<Record>, GetFault>
         requires server { self.now.server < T.servers site.old }
-        ensures answer { MatchResult result (λ found. IsTrue T.tells → IsRecordAt (dat_in (T.disk site.old).files self.now.server self.now.volume) (get self.now.index id) found) (λ fault. HasDifference fault × (IsTrue T.tells → TellsDamage (record_damage (dat_in (T.disk site.old).files self.now.server self.now.volume)) (get self.now.index id) fault)) }
-        ensures needle { IsTrue T.tells → (ps : List Placed) → BeginsWith (dat_in (T.disk site.old).files self.now.server self.now.volume) self.now.index self.now.used ps → MatchResult result (λ found. IsNeedle id found (get (fold_records ps).needles id)) IsNoDamage }
+        ensures answer { MatchResult result (λ found. IsTrue T.tells
+            → IsRecordAt (dat_in (T.disk site.old).files self.now.server self.now.volume)
+            (get self.now.index id) found) (λ fault. HasDifference fault
+            × (IsTrue T.tells → TellsDamage
+            (record_damage (dat_in (T.disk site.old).files self.now.server self.now.volume))
+            (get self.now.index id) fault)) }
+        ensures needle { IsTrue T.tells → (ps : List Placed)
+            → BeginsWith (dat_in (T.disk site.old).files self.now.server self.now.volume) self.now.index
+            self.now.used ps → MatchResult result
+            (λ found. IsNeedle id found (get (fold_records ps).needles id)) IsNoDamage }
         ensures same { IsTrue T.tells → T.disk site.new ≡ T.disk site.old }
-        ensures cause { HasCause self.now.server (T.counts site.old) (T.counts site.new) (IsErrOf result (GetFault.Fault (record { server = self.now.server }))) }
+        ensures runs { CallsAt T.counts T.servers self.now.server site.old site.new
+            (IsErrOf result (GetFault.Fault (record { server = self.now.server }))) }
         ensures blame { IfErr result (ReadBlamesServer self.now.server) }
-        ensures servers { T.servers site.new ≡ T.servers site.old }
-        ensures says { (T.counts site.new).say_faults ≡ (T.counts site.old).say_faults }
     {
         let Some(entry) = self.index.get(id) else {
             return Ok(None);
@@ -300,13 +336,20 @@ impl DatVolume {
         id: u64,
     ) -> Result<Option<u32>, GetFault>
         requires server { self.now.server < T.servers site.old }
-        ensures answer { MatchResult result (λ found. IsTrue T.tells → IsCookieAt (dat_in (T.disk site.old).files self.now.server self.now.volume) (get self.now.index id) found) (λ fault. HasDifference fault × (IsTrue T.tells → TellsDamage (header_damage (dat_in (T.disk site.old).files self.now.server self.now.volume)) (get self.now.index id) fault)) }
-        ensures needle { IsTrue T.tells → (ps : List Placed) → BeginsWith (dat_in (T.disk site.old).files self.now.server self.now.volume) self.now.index self.now.used ps → MatchResult result (λ found. IsCookie found (get (fold_records ps).needles id)) IsNoDamage }
+        ensures answer { MatchResult result (λ found. IsTrue T.tells
+            → IsCookieAt (dat_in (T.disk site.old).files self.now.server self.now.volume)
+            (get self.now.index id) found) (λ fault. HasDifference fault
+            × (IsTrue T.tells → TellsDamage
+            (header_damage (dat_in (T.disk site.old).files self.now.server self.now.volume))
+            (get self.now.index id) fault)) }
+        ensures needle { IsTrue T.tells → (ps : List Placed)
+            → BeginsWith (dat_in (T.disk site.old).files self.now.server self.now.volume) self.now.index
+            self.now.used ps → MatchResult result (λ found. IsCookie found (get (fold_records ps).needles id))
+            IsNoDamage }
         ensures same { IsTrue T.tells → T.disk site.new ≡ T.disk site.old }
-        ensures cause { HasCause self.now.server (T.counts site.old) (T.counts site.new) (IsErrOf result (GetFault.Fault (record { server = self.now.server }))) }
+        ensures runs { CallsAt T.counts T.servers self.now.server site.old site.new
+            (IsErrOf result (GetFault.Fault (record { server = self.now.server }))) }
         ensures blame { IfErr result (ReadBlamesServer self.now.server) }
-        ensures servers { T.servers site.new ≡ T.servers site.old }
-        ensures says { (T.counts site.new).say_faults ≡ (T.counts site.old).say_faults }
     {
         let Some(entry) = self.index.get(id) else {
             return Ok(None);

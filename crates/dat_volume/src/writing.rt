@@ -1,7 +1,7 @@
 // The writes to a volume's two files, in their order.
-ghost use Rattle.std.specs.Prelude.{◌≡◌, ◌≢◌, ◌<◌, ◌+◌, IsTrue, IsErr, OnOk, length};
-ghost use Rattle.site_model.specs.Counts.{HasCause, TakesCalls};
-ghost use Rattle.whole_file.specs.Pieces.{pieces_of, widest_piece};
+ghost use Rattle.std.specs.Prelude.{◌≢◌, ◌<◌, ◌+◌, IsTrue, IsErr, OnOk, length};
+ghost use Rattle.site_model.specs.Counts.{CallsAt, TakesCalls, widest_piece};
+ghost use Rattle.whole_file.specs.Pieces.{pieces_of};
 ghost use Rattle.dat_volume.specs.NewFiles.{under_names, AreApart, NoneOf, Makes, AreMade};
 ghost use Rattle.dat_volume.specs.Writing.{AppendsRecord, IsAppended};
 
@@ -27,11 +27,11 @@ pub(crate) fn make_files<T: Site>(
 ) -> Result<(), Failed>
     requires server { server < T.servers site.old }
     requires apart { AreApart (under_names server names.now) }
-    ensures effect { IsTrue T.tells → Makes (under_names server names.now) super_block.now (T.disk site.old) (T.disk site.new) }
-    ensures done { OnOk result (IsTrue T.tells → NoneOf (under_names server names.now) (T.disk site.old).files → AreMade (under_names server names.now) super_block.now (T.disk site.new).files) }
-    ensures cause { HasCause server (T.counts site.old) (T.counts site.new) (IsErr result) }
-    ensures servers { T.servers site.new ≡ T.servers site.old }
-    ensures says { (T.counts site.new).say_faults ≡ (T.counts site.old).say_faults }
+    ensures effect { IsTrue T.tells → Makes (under_names server names.now) super_block.now (T.disk site.old)
+        (T.disk site.new) }
+    ensures done { OnOk result (IsTrue T.tells → NoneOf (under_names server names.now) (T.disk site.old).files
+        → AreMade (under_names server names.now) super_block.now (T.disk site.new).files) }
+    ensures runs { CallsAt T.counts T.servers server site.old site.new (IsErr result) }
 {
     append_firm(site, server, &names.dat_temp, super_block)?;
     append_firm(site, server, &names.idx_temp, &[])?;
@@ -51,12 +51,14 @@ pub(crate) fn append_record<T: Site>(
 ) -> Result<(), Failed>
     requires server { server < T.servers site.old }
     requires differ { dat.now ≢ idx.now }
-    ensures effect { IsTrue T.tells → AppendsRecord (server, dat.now) (server, idx.now) bytes.now entry.now (T.disk site.old) (T.disk site.new) }
-    ensures done { OnOk result (IsTrue T.tells → IsAppended (server, dat.now) (server, idx.now) bytes.now entry.now (T.disk site.old).files (T.disk site.new).files) }
-    ensures calls { TakesCalls (pieces_of (length bytes.now) + pieces_of (length entry.now) + 2) widest_piece (T.counts site.old) (T.counts site.new) }
-    ensures cause { HasCause server (T.counts site.old) (T.counts site.new) (IsErr result) }
-    ensures servers { T.servers site.new ≡ T.servers site.old }
-    ensures says { (T.counts site.new).say_faults ≡ (T.counts site.old).say_faults }
+    ensures effect { IsTrue T.tells → AppendsRecord (server, dat.now) (server, idx.now) bytes.now entry.now
+        (T.disk site.old) (T.disk site.new) }
+    ensures done { OnOk result (IsTrue T.tells
+        → IsAppended (server, dat.now) (server, idx.now) bytes.now entry.now (T.disk site.old).files
+        (T.disk site.new).files) }
+    ensures calls { TakesCalls (pieces_of (length bytes.now) + pieces_of (length entry.now) + 2) widest_piece
+        (T.counts site.old) (T.counts site.new) }
+    ensures runs { CallsAt T.counts T.servers server site.old site.new (IsErr result) }
 {
     append_firm(site, server, dat, bytes)?;
     append_firm(site, server, idx, entry)?;

@@ -7,10 +7,10 @@ use Rattle.site_model.specs.Disk.{File, Place, LeftOf, IsFirm, bytes_of, firm_fi
 use Rattle.site_model.specs.Leaves.{Leaves, WithinCall, starts, joins, weaker, left_before, by_append, by_sync}
 use Rattle.site_model.specs.Touches.{Touches, At, touches_on, grown_left}
 use Rattle.wire_num.specs.Numbers as numbers
-use Rattle.wire_num.specs.NumberLaws.{length-bytes_of}
+use Rattle.wire_num.specs.Laws.Number.{length-bytes_of}
 use Rattle.wire_num.specs.Pairs.{journal_bytes}
 use Rattle.whole_file.specs.Whole.{AppendsFirm}
-use Rattle.wire_num.specs.PairLaws.{HasOrGains, has_behind, has_half}
+use Rattle.wire_num.specs.Laws.Pair.{HasOrGains, has_behind, has_half}
 use Rattle.ecj_journal.specs.Journals.{AppendsPair, GrowsBy}
 
 appended : {p : Place} {bytes : List ℕ} {old new : Disk} → Appends p bytes old new → Leaves old new (WithinCall (appends p bytes) old)

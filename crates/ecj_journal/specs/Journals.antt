@@ -1,11 +1,10 @@
 -- What the calls on a journal do, and what a stop within them leaves.
-use Rattle.std.specs.Prelude.{◌≡◌, ◌+◌, ◌*◌, ◌≤◌, ℕ, List, [], ◌++◌, length, max, unwrap_or}
+use Rattle.std.specs.Prelude.{◌≡◌, ◌+◌, ◌*◌, ◌≤◌, ℕ, List, [], ◌++◌, length, unwrap_or}
 use Rattle.site_model.specs.Disk.{Place, Disk, IsFirm, bytes_of}
-use Rattle.site_model.specs.Counts.{Counts}
 use Rattle.site_model.specs.Leaves.{Leaves}
 use Rattle.site_model.specs.Touches.{Touches, At}
 use Rattle.wire_num.specs.Pairs.{pairs, journal_bytes}
-use Rattle.wire_num.specs.PairLaws.{AreIds, HasOrGains}
+use Rattle.wire_num.specs.Laws.Pair.{AreIds, HasOrGains}
 use Rattle.ecj_journal.specs.declared.reading.Journal.{Journal}
 
 -- the bytes, and at most so many behind them
@@ -26,7 +25,3 @@ pub record IsJournalOf (bytes : List ℕ) (journal : Journal) : Type 0 where
   pub ids : journal.ids.items ≡ pairs bytes
   pub rest : length bytes ≡ 16 * length (pairs bytes) + journal.rest
   pub exact : journal.rest ≡ 0 → bytes ≡ journal_bytes (pairs bytes)
-
--- no call of more bytes than this
-pub record IsNoWider (width : ℕ) (old new : Counts) : Type 0 where
-  pub widest : new.widest ≤ max old.widest width

@@ -1,7 +1,7 @@
 // An id behind a journal.
 ghost use Rattle.std.specs.Prelude.{◌≡◌, ◌<◌, ◌+◌, ◌++◌, ◌^◌, ◌≤◌, IsTrue, IfErr, IsErr, OnOk, Some, length};
 ghost use Rattle.site_model.specs.Disk.{bytes_of, firm_file};
-ghost use Rattle.site_model.specs.Counts.{HasCause, HasWriteCause, TakesCalls};
+ghost use Rattle.site_model.specs.Counts.{CallsAt, HasWriteCause, TakesCalls};
 ghost use Rattle.wire_num.specs.Numbers as numbers;
 ghost use Rattle.wire_num.specs.Pairs.{pair_bytes};
 ghost use Rattle.whole_file.specs.Whole.{AppendsFirm};
@@ -25,11 +25,9 @@ pub fn append_pair<T: Site>(
     ensures done { OnOk result (IsTrue T.tells → (T.disk site.new).files (server, name.now)
         ≡ Some (firm_file (bytes_of ((T.disk site.old).files (server, name.now)) ++ pair_bytes id))) }
     ensures calls { TakesCalls 4 8 (T.counts site.old) (T.counts site.new) }
-    ensures cause { HasCause server (T.counts site.old) (T.counts site.new) (IsErr result) }
+    ensures runs { CallsAt T.counts T.servers server site.old site.new (IsErr result) }
     ensures write_cause { HasWriteCause server (T.counts site.old) (T.counts site.new) (IsErr result) }
     ensures blame { IfErr result (λ fault. fault.server ≡ server) }
-    ensures servers { T.servers site.new ≡ T.servers site.old }
-    ensures says { (T.counts site.new).say_faults ≡ (T.counts site.old).say_faults }
 {
     let half = half_of(id);
     match append_halves(site, server, name, &half, id) {
@@ -61,10 +59,8 @@ fn append_halves<T: Site>(
     ensures done { OnOk result (IsTrue T.tells → (T.disk site.new).files (server, name.now)
         ≡ Some (firm_file (bytes_of ((T.disk site.old).files (server, name.now)) ++ pair_bytes id))) }
     ensures calls { TakesCalls 4 8 (T.counts site.old) (T.counts site.new) }
-    ensures cause { HasCause server (T.counts site.old) (T.counts site.new) (IsErr result) }
+    ensures runs { CallsAt T.counts T.servers server site.old site.new (IsErr result) }
     ensures write_cause { HasWriteCause server (T.counts site.old) (T.counts site.new) (IsErr result) }
-    ensures servers { T.servers site.new ≡ T.servers site.old }
-    ensures says { (T.counts site.new).say_faults ≡ (T.counts site.old).say_faults }
 {
     append_one(site, server, name, half)?;
     append_one(site, server, name, half)?;
@@ -83,10 +79,8 @@ fn append_one<T: Site>(site: &mut T, server: u32, name: &str, bytes: &[u8]) -> R
     ensures done { OnOk result (IsTrue T.tells → (T.disk site.new).files (server, name.now)
         ≡ Some (firm_file (bytes_of ((T.disk site.old).files (server, name.now)) ++ bytes.now))) }
     ensures calls { TakesCalls 2 8 (T.counts site.old) (T.counts site.new) }
-    ensures cause { HasCause server (T.counts site.old) (T.counts site.new) (IsErr result) }
+    ensures runs { CallsAt T.counts T.servers server site.old site.new (IsErr result) }
     ensures write_cause { HasWriteCause server (T.counts site.old) (T.counts site.new) (IsErr result) }
-    ensures servers { T.servers site.new ≡ T.servers site.old }
-    ensures says { (T.counts site.new).say_faults ≡ (T.counts site.old).say_faults }
 {
     site.append(server, name, bytes)?;
     site.sync(server, name)?;

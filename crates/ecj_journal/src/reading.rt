@@ -1,11 +1,10 @@
 // The ids of a journal.
 ghost use Rattle.std.specs.Prelude.{◌≡◌, ◌<◌, ◌+◌, ◌*◌, ◌⊎◌, ◌≤◌, IsTrue, IfOk, IfErr, IsErrOf, length};
 ghost use Rattle.site_model.specs.Disk.{bytes_of};
-ghost use Rattle.site_model.specs.Counts.{HasCause};
+ghost use Rattle.site_model.specs.Counts.{CallsAt};
 ghost use Rattle.wire_num.specs.Pairs.{pairs};
 ghost use Rattle.whole_file.specs.Held.{final_place};
-ghost use Rattle.whole_file.specs.Pieces.{widest_piece};
-ghost use Rattle.ecj_journal.specs.Journals.{IsJournalOf, IsNoWider};
+ghost use Rattle.ecj_journal.specs.Journals.{IsJournalOf};
 
 use file_names::{FileName, Kind, spell};
 use site_model::{DeviceFault, Site};
@@ -36,13 +35,10 @@ pub fn read_pairs<T: Site>(
     ensures journal { IfOk result (λ journal. IsTrue T.tells
         → IsJournalOf (bytes_of ((T.disk site.old).files (final_place server volume Kind.Ecj))) journal) }
     ensures same { IsTrue T.tells → T.disk site.new ≡ T.disk site.old }
-    ensures width { IsNoWider widest_piece (T.counts site.old) (T.counts site.new) }
-    ensures cause { HasCause server (T.counts site.old) (T.counts site.new)
+    ensures runs { CallsAt T.counts T.servers server site.old site.new
         (IsErrOf result (FileFault.Fault (record { server = server }))) }
     ensures blame { IfErr result (λ fault. (fault ≡ FileFault.Memory)
         ⊎ (fault ≡ FileFault.Fault (record { server = server }))) }
-    ensures servers { T.servers site.new ≡ T.servers site.old }
-    ensures says { (T.counts site.new).say_faults ≡ (T.counts site.old).say_faults }
 {
     let name = spell(
         alloc,

@@ -1,9 +1,9 @@
 // A journal written whole.
 ghost use Rattle.std.specs.Prelude.{◌≡◌, ◌<◌, ◌+◌, ◌*◌, ◌⊎◌, IsTrue, IfOk, IfErr, IsErrOf, OnOk, length};
-ghost use Rattle.site_model.specs.Counts.{HasCause, TakesCalls};
+ghost use Rattle.site_model.specs.Counts.{CallsAt, TakesCalls, widest_piece};
 ghost use Rattle.wire_num.specs.Pairs.{journal_bytes};
 ghost use Rattle.whole_file.specs.Held.{final_place, temp_place};
-ghost use Rattle.whole_file.specs.Pieces.{pieces_of, widest_piece};
+ghost use Rattle.whole_file.specs.Pieces.{pieces_of};
 ghost use Rattle.whole_file.specs.Whole.{WritesWhole, IsWritten};
 
 use crate::appending::half_of;
@@ -30,12 +30,10 @@ pub fn write_pairs<T: Site>(
     ensures memory { IsErrOf result FileFault.Memory → site.new ≡ site.old }
     ensures calls { TakesCalls (pieces_of (16 * length ids.now) + 4) widest_piece
         (T.counts site.old) (T.counts site.new) }
-    ensures cause { HasCause server (T.counts site.old) (T.counts site.new)
+    ensures runs { CallsAt T.counts T.servers server site.old site.new
         (IsErrOf result (FileFault.Fault (record { server = server }))) }
     ensures blame { IfErr result (λ fault. (fault ≡ FileFault.Memory)
         ⊎ (fault ≡ FileFault.Fault (record { server = server }))) }
-    ensures servers { T.servers site.new ≡ T.servers site.old }
-    ensures says { (T.counts site.new).say_faults ≡ (T.counts site.old).say_faults }
 {
     let bytes = bytes_of_pairs(alloc, ids)?;
     write_whole(alloc, site, server, volume, Kind::Ecj, &bytes)

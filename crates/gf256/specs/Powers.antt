@@ -3,7 +3,7 @@ use Rattle.std.proofs.Common.{◌≡◌, ◌⊎◌, inl, inr, ℕ, zero, suc, �
 use Rattle.std.specs.Prelude.{◌==◌, ◌||◌}
 use Rattle.std.proofs.lemmas.Bool.{eqb-true}
 use Rattle.gf256.specs.Field.{field_mul, field_pow, field_inv, carry_less, reduced}
-use Rattle.gf256.specs.FieldLaws.{mul-fits, mul_comm, mul_assoc, one-mul}
+use Rattle.gf256.specs.Laws.Field.{mul-fits, mul_comm, mul_assoc, one-mul}
 use Rattle.gf256.specs.Computed.{all_below, each_below}
 
 pub pow-fits : (a n : ℕ) → a < 256 → field_pow a n < 256

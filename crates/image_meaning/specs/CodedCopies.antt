@@ -7,7 +7,7 @@ use Rattle.std.proofs.Math.ListN.{length-append}
 use Rattle.file_names.specs.declared.Kind.{Kind}
 use Rattle.file_names.specs.declared.Kind.TheVariants.{Idx, Cpx, Shard, Ecx, Ecj, Vif}
 use Rattle.wire_num.specs.Pairs.{pairs, journal_bytes}
-use Rattle.wire_num.specs.PairLaws.{AreIds, pairs_of_journal, length-journal_bytes}
+use Rattle.wire_num.specs.Laws.Pair.{AreIds, pairs_of_journal, length-journal_bytes}
 use Rattle.stripe_layout.specs.Information.{info_of}
 use Rattle.image_meaning.specs.Files.{VolumeFiles, lose_files, stands, bytes_at, has_index, is_holder, all_shards, shard_home, standing, lowest}
 use Rattle.image_meaning.specs.Plain.{index_home}
@@ -21,8 +21,8 @@ use Rattle.image_meaning.specs.Laws.Views.{same_index_at, has_either, made_has, 
 use Rattle.image_meaning.specs.Laws.CodedLoss.{holder_left, holder_stood}
 use Rattle.image_meaning.specs.Laws.Survivable.{fewer, not_both}
 use Rattle.image_meaning.specs.Parts.{Parts, AreSoundParts, IsMadeOf, HasEnough, IsCodedForm, HasAll, AllHave, AllLack}
-use Rattle.image_meaning.specs.PartLaws.{made_coded, made_enough, enough_before, made_home, made_left, form_left, all_or_less, means_all, means_less}
-use Rattle.image_meaning.specs.CopyLaws.{HasFewerCopies}
+use Rattle.image_meaning.specs.Laws.Part.{made_coded, made_enough, enough_before, made_home, made_left, form_left, all_or_less, means_all, means_less}
+use Rattle.image_meaning.specs.Laws.Copy.{HasFewerCopies}
 
 -- no list is itself with one more
 no_more : (ids : List ℕ) (id : ℕ) → ids ≡ ids ++ id ∷ [] → ⊥

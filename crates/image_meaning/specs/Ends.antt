@@ -125,6 +125,10 @@ pub record MayHave (image : Image) (v : ℕ) (it : Option Volume) : Type 0 where
   pub survivable : IsSurvivable image lost
   pub means : it ≡ volume_in (lose lost image) v
 
+-- What a second loss may leave, one loss may leave.
+abbrev pub LossesCompose : Type 0
+LossesCompose = (image : Image) (lost : ℕ → Bool) (v : ℕ) (it : Option Volume) → IsSound image → IsSurvivable image lost → MayHave (lose lost image) v it → MayHave image v it
+
 -- ---- near
 
 -- the mark is held in memory

@@ -19,7 +19,7 @@ use Rattle.stripe_layout.specs.declared.Info.{Info}
 use Rattle.image_meaning.specs.Files.{VolumeFiles, lose_files, is_holder, all_servers, standing}
 use Rattle.image_meaning.specs.Coded.{ratio_of, volume_info, dat_of, deleted_at, deleted, coded_volume, coded_with, without_ids}
 use Rattle.image_meaning.specs.Plain.{kept_records, FollowsRecords}
-use Rattle.image_meaning.specs.PlainLaws.{IsAlone, IsAbsent, alone_plain, alone_means, alone_sound, absent_mode, absent_sound}
+use Rattle.image_meaning.specs.Laws.Plain.{IsAlone, IsAbsent, alone_plain, alone_means, alone_sound, absent_mode, absent_sound}
 use Rattle.image_meaning.specs.Meaning.{mode_of, volume_of, volume_by, lost_volume}
 use Rattle.image_meaning.specs.Sound.{IsPlain, IsCoded, IsHolder, IsSoundVolume, IsSoundCoded}
 use Rattle.image_meaning.specs.Ends.{SurvivesIn, IsStage}

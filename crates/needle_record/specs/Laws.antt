@@ -13,3 +13,5 @@ pub mod Pushes
 pub mod Cuts
 pub mod Folds
 pub mod Agreeing
+pub mod Spelling
+pub mod Records

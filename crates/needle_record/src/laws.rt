@@ -8,10 +8,12 @@ ghost use Rattle.needle_record.specs.Reading.{needle_at};
 
 /// What is written is read again, whatever follows it.
 pub fn written_is_read()
-    ensures { (r : Record) (more : List ℕ) → HasRoom r → IfSome r.content Fits → needle_at (canonical r ++ more) ≡ Ok (r, length_of_record r) }
+    ensures { (r : Record) (more : List ℕ) → HasRoom r → IfSome r.content Fits
+        → needle_at (canonical r ++ more) ≡ Ok (r, length_of_record r) }
 {}
 
 /// No bytes begin two records.
 pub fn bytes_begin_one_record()
-    ensures { (r s : Record) (a b x y : List ℕ) → SpellsNeedle r a → SpellsNeedle s b → a ++ x ≡ b ++ y → r ≡ s }
+    ensures { (r s : Record) (a b x y : List ℕ) → SpellsNeedle r a → SpellsNeedle s b → a ++ x ≡ b ++ y
+        → r ≡ s }
 {}

@@ -124,7 +124,8 @@ pub fn read_record(alloc: Global, bytes: &[u8]) -> Result<(Record, u64), NeedleF
     // What is read is spelled by the bytes that it took.
     ensures spelled { IfOk result (λ x. SpellsNeedle x.0 (take x.1 bytes.now)) }
     // What is spelled at the front is read.
-    ensures only { (r : Record) (n : ℕ) → n ≤ length bytes.now → SpellsNeedle r (take n bytes.now) → Gives result (Ok (r, n)) }
+    ensures only { (r : Record) (n : ℕ) → n ≤ length bytes.now → SpellsNeedle r (take n bytes.now)
+        → Gives result (Ok (r, n)) }
     // Which fault it is.
     ensures exact { Gives result (needle_at bytes.now) }
 {

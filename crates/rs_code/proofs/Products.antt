@@ -5,7 +5,7 @@ use Rattle.std.specs.List.{remove}
 use Rattle.std.specs.Prelude.{slice_index}
 use Rattle.std.specs.Int.Bits.{xor_lt}
 use Rattle.gf256.specs.Field.{field_add, field_mul}
-use Rattle.gf256.specs.FieldLaws.{mul_assoc, mul-fits, one-mul}
+use Rattle.gf256.specs.Laws.Field.{mul_assoc, mul-fits, one-mul}
 use Rattle.gf256.specs.Powers.{mul-one}
 use Rattle.rs_code.specs.Codeword.{AreBytes}
 use Rattle.rs_code.specs.Roots.{differences, differences_fit, differences-drop, differences-append, differences_nonzero}

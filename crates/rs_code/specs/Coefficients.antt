@@ -6,7 +6,7 @@ use Rattle.std.specs.Int.Bits.{xor_comm, xor_zero_r}
 use Rattle.std.proofs.lemmas.List.{take-append-drop, get_or-map}
 use Rattle.std.proofs.lemmas.Grind.{same_number_lists}
 use Rattle.gf256.specs.Field.{field_mul, poly_value}
-use Rattle.gf256.specs.FieldLaws.{mul-zero}
+use Rattle.gf256.specs.Laws.Field.{mul-zero}
 use Rattle.gf256.specs.Powers.{mul-one}
 use Rattle.rs_code.specs.Codeword.{IsCodeword, AreBytes}
 use Rattle.rs_code.specs.Roots.{IsElsewhere, basis, basis_fits, each_weaker}

@@ -4,8 +4,8 @@ use Rattle.std.specs.Prelude.{bit_xor}
 use Rattle.std.specs.List.{AllByRecursion}
 use Rattle.std.specs.Int.Bits.{xor_comm, xor_self, xor_zero_r}
 use Rattle.gf256.specs.Field.{field_add, field_mul, poly_value}
-use Rattle.gf256.specs.Bitwise.{xor_twice}
-use Rattle.gf256.specs.FieldLaws.{zero-mul, mul_comm, one-mul}
+use Rattle.gf256.specs.Laws.Bitwise.{xor_twice}
+use Rattle.gf256.specs.Laws.Field.{zero-mul, mul_comm, one-mul}
 use Rattle.rs_code.specs.Codeword.{AreBytes, Known}
 use Rattle.rs_code.specs.Polynomials.{poly_add, poly_times, value_fits, value-add, value-times, add_bytes, times_bytes, length-times}
 use Rattle.rs_code.specs.Through.{IsPoint, NotAt, AreApart, value_through-is}

@@ -4,7 +4,7 @@ use Rattle.std.specs.Prelude.{bit_xor, slice_index}
 use Rattle.std.specs.List.{AllByRecursion}
 use Rattle.std.specs.Int.Bits.{xor_comm, xor_self, xor_zero_r, xor_lt}
 use Rattle.gf256.specs.Field.{field_add, field_mul, field_inv, poly_value}
-use Rattle.gf256.specs.FieldLaws.{mul-add_left, mul-zero, zero-mul, mul-fits, mul_assoc, mul_comm, one-mul}
+use Rattle.gf256.specs.Laws.Field.{mul-add_left, mul-zero, zero-mul, mul-fits, mul_assoc, mul_comm, one-mul}
 use Rattle.gf256.specs.Powers.{mul-inv, inv-fits}
 use Rattle.rs_code.specs.Codeword.{AreBytes}
 use Rattle.rs_code.specs.Polynomials.{poly_add, poly_times, value-add, value-times, add_bytes, times_bytes, length-times, length-add}

@@ -12,3 +12,4 @@ pub mod Losing
 pub mod Replaying
 pub mod Tearing
 pub mod Leaving
+pub mod SinceStart

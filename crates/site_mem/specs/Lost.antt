@@ -1,4 +1,5 @@
 -- The servers that lost their files, from the numbers of the calls that found them lost.
+use Rattle.std.specs.List.{list_any}
 use Rattle.std.specs.Prelude.{◌≡◌, ◌≢◌, ℕ, Bool, ◌&&◌, nat_lt, nat_le, if◌then◌else◌, List, slice_index, None}
 use Rattle.site_model.specs.Disk.{Files, Disk}
 
@@ -8,6 +9,10 @@ has_lost since server = nat_lt 0 (slice_index since server)
 -- the call with this number found them lost
 abbrev pub had_lost : List ℕ → ℕ → ℕ → Bool
 had_lost since number server = nat_lt 0 (slice_index since server) && nat_le (slice_index since server) number
+
+-- some server lost its files after the call with this number
+abbrev pub has_lost_after : ℕ → List ℕ → Bool
+has_lost_after number since = list_any (λ n. nat_lt number n) since
 
 -- what is left of the files when these servers lose theirs
 abbrev pub files_without : (ℕ → Bool) → Files → Files

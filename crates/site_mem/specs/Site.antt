@@ -1,11 +1,12 @@
 -- What a site in memory shows, and what each of its calls leaves of that.
 use Rattle.std.specs.Prelude.{◌≡◌, ℕ, ◌+◌, ◌-◌, ◌^◌, ◌<◌, ◌≤◌, ◌⊎◌, ◌&&◌, ◌||◌, not, min, Bool, true, false, IsTrue, if◌then◌else◌, Option, None, slice_index_or}
-use Rattle.site_model.specs.Disk.{Disk}
+use Rattle.site_model.specs.Disk.{Disk, Image, standing}
+use Rattle.site_model.specs.Leaves.{Left}
 use Rattle.site_model.specs.Counts.{Counts}
 use Rattle.site_mem.specs.declared.mem.MemSite.{MemSite}
 use Rattle.site_mem.specs.Events.{Event}
 use Rattle.site_mem.specs.Record.{nothing}
-use Rattle.site_mem.specs.Held.{disk_held, call_held}
+use Rattle.site_mem.specs.Held.{disk_held, call_held, loss_held}
 use Rattle.site_mem.specs.Calls.{Underway, call_of, Begins}
 use Rattle.site_mem.specs.Counting.{counts_of, next_call, AreNone}
 use Rattle.site_mem.specs.Failing.{lists, lists_read}
@@ -36,6 +37,19 @@ reads_fail_at m server = slice_index_or m.listed.reads server None
 -- what stood as the call with this number was made
 abbrev pub call_at : MemSite → ℕ → Underway
 call_at m number = call_held m.history number
+
+-- Whether a server lost its files after the call with this number, and before the next call that can change
+-- something. A loss is no call, so what stood before it may be what no recorded call found.
+abbrev pub loses_at : MemSite → ℕ → Bool
+loses_at m number = loss_held m.history number
+
+-- what stands on a disk
+abbrev pub image_of : Disk → Image
+image_of d = λ k. standing (d.files k)
+
+-- a stop at some moment since the site's start may leave this, when that had been said
+abbrev pub IsLeftSinceStart : MemSite → Disk → Type 0
+IsLeftSinceStart m left = Left (disk_at m) 0 (image_of left) left.said
 
 -- what is to fail stays listed
 pub record KeepsListed (old new : MemSite) : Type 0 where

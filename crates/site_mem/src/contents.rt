@@ -38,7 +38,8 @@ impl Contents {
     // Where the file is kept.
     #[tactic(auto, using(crate::proofs::Keeping::none_more, crate::proofs::Keeping::none_all))]
     fn position(&self, server: u32, name: &str) -> Option<usize>
-        ensures { MatchOption result (files_of self.now.files.items (server, name.now) ≡ None) (λ at. IsAt self.now.files.items at (server, name.now)) }
+        ensures { MatchOption result (files_of self.now.files.items (server, name.now) ≡ None)
+            (λ at. IsAt self.now.files.items at (server, name.now)) }
     {
         for (at, file) in self.files.iter().enumerate() {
             if file.is_at(server, name) {
@@ -60,7 +61,8 @@ impl Contents {
 
     // This file at its place.
     fn put(&mut self, file: Stored) -> Result<(), AllocError>
-        ensures ok { OnOk result (files_of self.new.files.items ≡ put_file (place_of file) (Some (file_of file)) (files_of self.old.files.items)) }
+        ensures ok { OnOk result (files_of self.new.files.items ≡ put_file (place_of file)
+            (Some (file_of file)) (files_of self.old.files.items)) }
         ensures err { OnErr result (files_of self.new.files.items ≡ files_of self.old.files.items) }
         ensures said { self.new.said.items ≡ self.old.said.items }
     {
@@ -79,7 +81,9 @@ impl Contents {
         name: &str,
         bytes: &[u8],
     ) -> Result<(), AllocError>
-        ensures ok { OnOk result (files_of self.new.files.items ≡ put_file (server, name.now) (Some (grown (files_of self.old.files.items (server, name.now)) bytes.now)) (files_of self.old.files.items)) }
+        ensures ok { OnOk result (files_of self.new.files.items ≡ put_file (server, name.now)
+            (Some (grown (files_of self.old.files.items (server, name.now)) bytes.now))
+            (files_of self.old.files.items)) }
         ensures err { OnErr result (files_of self.new.files.items ≡ files_of self.old.files.items) }
         ensures said { self.new.said.items ≡ self.old.said.items }
     {
@@ -97,7 +101,8 @@ impl Contents {
 
     // Makes a file firm.
     fn sync(&mut self, server: u32, name: &str)
-        ensures files { files_of self.new.files.items ≡ put_file (server, name.now) (synced (files_of self.old.files.items (server, name.now))) (files_of self.old.files.items) }
+        ensures files { files_of self.new.files.items ≡ put_file (server, name.now)
+            (synced (files_of self.old.files.items (server, name.now))) (files_of self.old.files.items) }
         ensures said { self.new.said.items ≡ self.old.said.items }
     {
         if let Some(at) = self.position(server, name) {
@@ -107,7 +112,9 @@ impl Contents {
 
     // Ends a file at this length.
     fn cut(&mut self, server: u32, name: &str, length: u64)
-        ensures files { files_of self.new.files.items ≡ put_file (server, name.now) (cut_to length (files_of self.old.files.items (server, name.now))) (files_of self.old.files.items) }
+        ensures files { files_of self.new.files.items ≡ put_file (server, name.now)
+            (cut_to length (files_of self.old.files.items (server, name.now)))
+            (files_of self.old.files.items) }
         ensures said { self.new.said.items ≡ self.old.said.items }
     {
         if let Some(at) = self.position(server, name) {
@@ -117,7 +124,8 @@ impl Contents {
 
     // A file less.
     fn remove(&mut self, server: u32, name: &str)
-        ensures files { files_of self.new.files.items ≡ put_file (server, name.now) None (files_of self.old.files.items) }
+        ensures files { files_of self.new.files.items ≡ put_file (server, name.now) None
+            (files_of self.old.files.items) }
         ensures said { self.new.said.items ≡ self.old.said.items }
     {
         if let Some(at) = self.position(server, name) {
@@ -127,7 +135,8 @@ impl Contents {
 
     // Nothing stands under the new name but the file itself.
     fn make_room(&mut self, server: u32, old: &str, new: &str)
-        ensures files { MakesRoom (server, old.now) (server, new.now) (files_of self.old.files.items) (files_of self.new.files.items) }
+        ensures files { MakesRoom (server, old.now) (server, new.now) (files_of self.old.files.items)
+            (files_of self.new.files.items) }
         ensures said { self.new.said.items ≡ self.old.said.items }
     {
         if old != new {
@@ -137,7 +146,9 @@ impl Contents {
 
     // Gives a file another name.
     fn rename(&mut self, alloc: Global, server: u32, old: &str, new: &str) -> Result<(), AllocError>
-        ensures ok { OnOk result (files_of self.new.files.items ≡ put_file (server, new.now) (files_of self.old.files.items (server, old.now)) (put_file (server, old.now) None (files_of self.old.files.items))) }
+        ensures ok { OnOk result (files_of self.new.files.items ≡ put_file (server, new.now)
+            (files_of self.old.files.items (server, old.now))
+            (put_file (server, old.now) None (files_of self.old.files.items))) }
         ensures err { OnErr result (files_of self.new.files.items ≡ files_of self.old.files.items) }
         ensures said { self.new.said.items ≡ self.old.said.items }
     {
@@ -152,8 +163,10 @@ impl Contents {
     /// Carries out what is asked. Where a file is missing that is asked for, nothing happens, but that a file
     /// that stood under a new name is gone.
     pub fn carry_out(&mut self, alloc: Global, request: &Request<'_>) -> Result<(), AllocError>
-        ensures files { OnOk result (files_of self.new.files.items ≡ files_after (event_now request.now) (files_of self.old.files.items)) }
-        ensures said { OnOk result (self.new.said.items ≡ said_after (event_now request.now) self.old.said.items) }
+        ensures files { OnOk result (files_of self.new.files.items ≡ files_after (event_now request.now)
+            (files_of self.old.files.items)) }
+        ensures said { OnOk result (self.new.said.items ≡ said_after (event_now request.now)
+            self.old.said.items) }
         ensures err_files { OnErr result (files_of self.new.files.items ≡ files_of self.old.files.items) }
         ensures err_said { OnErr result (self.new.said.items ≡ self.old.said.items) }
     {
@@ -197,8 +210,12 @@ impl Contents {
         request: &Request<'_>,
         is_done: bool,
     ) -> Result<(), AllocError>
-        ensures files { OnOk result (files_of self.new.files.items ≡ (if is_done then files_after (event_now request.now) (files_of self.old.files.items) else files_of self.old.files.items)) }
-        ensures said { OnOk result (self.new.said.items ≡ (if is_done then said_after (event_now request.now) self.old.said.items else self.old.said.items)) }
+        ensures files { OnOk result (files_of self.new.files.items
+            ≡ (if is_done then files_after (event_now request.now) (files_of self.old.files.items)
+            else files_of self.old.files.items)) }
+        ensures said { OnOk result (self.new.said.items
+            ≡ (if is_done then said_after (event_now request.now) self.old.said.items
+            else self.old.said.items)) }
         ensures err_files { OnErr result (files_of self.new.files.items ≡ files_of self.old.files.items) }
         ensures err_said { OnErr result (self.new.said.items ≡ self.old.said.items) }
     {
@@ -221,7 +238,8 @@ impl Contents {
 
     /// The files at the servers that lost theirs are gone.
     pub fn lose(&mut self, losses: &Losses)
-        ensures files { files_of self.new.files.items ≡ files_without (has_lost losses.now.since) (files_of self.old.files.items) }
+        ensures files { files_of self.new.files.items ≡ files_without (has_lost losses.now.since)
+            (files_of self.old.files.items) }
         ensures said { self.new.said.items ≡ self.old.said.items }
     {
         self.files.retain(|file| !losses.has_lost(file.server));
@@ -229,7 +247,8 @@ impl Contents {
 
     /// The files at the servers that had lost theirs before the call with this number are gone.
     pub fn lose_by(&mut self, losses: &Losses, number: u64)
-        ensures files { files_of self.new.files.items ≡ files_without (had_lost losses.now.since number) (files_of self.old.files.items) }
+        ensures files { files_of self.new.files.items ≡ files_without (had_lost losses.now.since number)
+            (files_of self.old.files.items) }
         ensures said { self.new.said.items ≡ self.old.said.items }
     {
         self.files
@@ -243,8 +262,10 @@ impl Contents {
         asked: Option<&Recorded>,
         tear: Tear,
     ) -> Result<(), AllocError>
-        ensures files { OnOk result (files_of self.new.files.items ≡ files_reached tear (call_asked asked.entry) (files_of self.old.files.items)) }
-        ensures said { OnOk result (self.new.said.items ≡ said_reached tear (call_asked asked.entry) self.old.said.items) }
+        ensures files { OnOk result (files_of self.new.files.items ≡ files_reached tear
+            (call_asked asked.entry) (files_of self.old.files.items)) }
+        ensures said { OnOk result (self.new.said.items ≡ said_reached tear (call_asked asked.entry)
+            self.old.said.items) }
     {
         let Some(asked) = asked else {
             return Ok(());

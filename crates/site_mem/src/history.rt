@@ -25,7 +25,7 @@ impl History {
     ghost use Rattle.std.specs.Prelude.{◌≡◌, IfOk, OnOk, OnErr, ◌<◌, [], ℕ, slice_index};
     ghost use Rattle.site_mem.specs.Events.{event_now};
     ghost use Rattle.site_mem.specs.Record.{nothing, disk_of};
-    ghost use Rattle.site_mem.specs.Calls.{at_call};
+    ghost use Rattle.site_mem.specs.Calls.{at_call, loses_after};
     ghost use Rattle.site_mem.specs.Entered.{IsEntered, IsKept};
     ghost use Rattle.site_mem.specs.Lost.{Loses};
     ghost use Rattle.site_mem.specs.Replayed.{IsContentsAt};
@@ -80,7 +80,8 @@ impl History {
 
     /// What stood and had been said as the call with this number was made.
     pub fn contents_at(&self, alloc: Global, number: u64) -> Result<Contents, AllocError>
-        ensures { IfOk result (IsContentsAt (at_call number nothing self.now.entries.items self.now.lost.since)) }
+        ensures { IfOk result (IsContentsAt
+            (at_call number nothing self.now.entries.items self.now.lost.since)) }
     {
         let mut contents = Contents::new(alloc);
         for entry in &self.entries {
@@ -96,7 +97,8 @@ impl History {
 
     /// The call with this number, if it is recorded.
     pub fn asked_at(&self, number: u64) -> Option<&Recorded>
-        ensures { call_asked result ≡ (at_call number nothing self.now.entries.items self.now.lost.since).call }
+        ensures { call_asked result ≡ (at_call number nothing self.now.entries.items
+            self.now.lost.since).call }
     {
         for entry in &self.entries {
             if number <= entry.number {
@@ -108,6 +110,18 @@ impl History {
             }
         }
         None
+    }
+
+    /// Whether a server lost its files after the call with this number, and before the next one that is recorded.
+    pub fn loses_after(&self, number: u64) -> bool
+        ensures { result ≡ loses_after number self.now.entries.items self.now.lost.since }
+    {
+        for entry in &self.entries {
+            if number <= entry.number {
+                return entry.lost.has_lost_after(number);
+            }
+        }
+        self.lost.has_lost_after(number)
     }
 }
 

@@ -25,7 +25,8 @@ impl Listed {
 
     /// The call with this number fails.
     pub fn add_call(&mut self, call: u64) -> Result<(), AllocError>
-        ensures ok { OnOk result ((number : ℕ) → lists self.new.calls.items number ≡ (number == call) || lists self.old.calls.items number) }
+        ensures ok { OnOk result ((number : ℕ)
+            → lists self.new.calls.items number ≡ (number == call) || lists self.old.calls.items number) }
         ensures err { OnErr result (self.new.calls.items ≡ self.old.calls.items) }
         ensures reads { self.new.reads ≡ self.old.reads }
     {
@@ -36,8 +37,10 @@ impl Listed {
     /// Each read at the server fails from the call with this number on.
     pub fn add_reads(&mut self, server: u32, from: u64)
         requires { server < 64 }
-        ensures here { slice_index_or self.new.reads server None ≡ Some (lower from (slice_index_or self.old.reads server None)) }
-        ensures others { (other : ℕ) → other ≢ server → slice_index_or self.new.reads other None ≡ slice_index_or self.old.reads other None }
+        ensures here { slice_index_or self.new.reads server None
+            ≡ Some (lower from (slice_index_or self.old.reads server None)) }
+        ensures others { (other : ℕ) → other ≢ server
+            → slice_index_or self.new.reads other None ≡ slice_index_or self.old.reads other None }
         ensures calls { self.new.calls.items ≡ self.old.calls.items }
     {
         let reads = &mut self.reads[server as usize];
@@ -55,7 +58,8 @@ impl Listed {
 
     pub fn has_read(&self, server: u32, number: u64) -> bool
         requires { server < 64 }
-        ensures { result ≡ (lists self.now.calls.items number || lists_read (slice_index_or self.now.reads server None) number) }
+        ensures { result ≡ (lists self.now.calls.items number || lists_read
+            (slice_index_or self.now.reads server None) number) }
     {
         self.has_call(number)
             || match self.reads[server as usize] {

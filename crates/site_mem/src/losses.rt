@@ -1,6 +1,6 @@
 // Which servers lost their files, and when.
 ghost use Rattle.std.specs.Prelude.{◌≡◌, ◌≢◌, ◌<◌, ℕ, nat_lt, if◌then◌else◌, slice_index};
-ghost use Rattle.site_mem.specs.Lost.{has_lost, had_lost};
+ghost use Rattle.site_mem.specs.Lost.{has_lost, had_lost, has_lost_after};
 
 /// By server the number of the first call that found its files lost, and 0 where they weren't.
 #[derive(Clone, Copy)]
@@ -19,8 +19,11 @@ impl Losses {
     pub fn add(&mut self, server: u32, number: u64)
         requires server { server < 64 }
         requires number { 0 < number }
-        ensures here { slice_index self.new.since server ≡ (if nat_lt 0 (slice_index self.old.since server) then slice_index self.old.since server else number) }
-        ensures others { (other : ℕ) → other ≢ server → slice_index self.new.since other ≡ slice_index self.old.since other }
+        ensures here { slice_index self.new.since server
+            ≡ (if nat_lt 0 (slice_index self.old.since server) then slice_index self.old.since server
+            else number) }
+        ensures others { (other : ℕ) → other ≢ server
+            → slice_index self.new.since other ≡ slice_index self.old.since other }
     {
         let since = &mut self.since[server as usize];
         if *since == 0 {
@@ -46,5 +49,12 @@ impl Losses {
             Some(since) => 0 < *since && *since <= number,
             None => false,
         }
+    }
+
+    /// Whether some server's files were lost after the call with this number.
+    pub fn has_lost_after(&self, number: u64) -> bool
+        ensures { result ≡ has_lost_after number self.now.since }
+    {
+        self.since.iter().any(|since| number < *since)
     }
 }

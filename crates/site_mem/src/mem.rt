@@ -1,6 +1,6 @@
 // A site in memory.
 ghost use Rattle.std.specs.Prelude.{◌≡◌, ◌+◌, ◌<◌, ◌≤◌, ℕ, IsTrue, slice_index};
-ghost use Rattle.site_mem.specs.Calls.{are_numbered, are_within};
+ghost use Rattle.site_mem.specs.Calls.{are_numbered, are_within, are_calls};
 
 use crate::asked::{Asked, Request};
 use crate::history::History;
@@ -26,6 +26,7 @@ pub struct MemSite {
     ghost numbered: { IsTrue (are_numbered tally.calls history.entries.items) },
     ghost since: { (server : ℕ) → slice_index history.lost.since server ≤ tally.calls + 1 },
     ghost within: { IsTrue (are_within servers history.entries.items) },
+    ghost asked: { IsTrue (are_calls history.entries.items) },
 }
 
 impl MemSite {
@@ -43,7 +44,8 @@ impl MemSite {
         requires within { IsWithin self.old.servers (event_now request) }
         ensures done { OnOk result (IsDone (event_now request.entry) (disk_at self.old) (disk_at self.new)) }
         ensures effect { Effect (event_now request.entry) (disk_at self.old) (disk_at self.new) }
-        ensures counts { CountsEvent (event_now request.entry) (counts_at self.old) (counts_at self.new) (IsErr result) }
+        ensures counts { CountsEvent (event_now request.entry) (counts_at self.old) (counts_at self.new)
+            (IsErr result) }
         ensures servers { self.new.servers ≡ self.old.servers }
         ensures made { Makes (event_now request.entry) self.old self.new (is_err result) }
     {
@@ -83,7 +85,8 @@ impl MemSite {
     // Fills `out` from a file.
     fn fill(&self, server: u32, name: &str, at: u64, out: &mut [u8])
         requires { at + length out.old ≤ length (bytes_of ((disk_at self.now).files (server, name.now))) }
-        ensures { out.new ≡ take (length out.old) (drop at (bytes_of ((disk_at self.now).files (server, name.now)))) }
+        ensures { out.new ≡ take (length out.old)
+            (drop at (bytes_of ((disk_at self.now).files (server, name.now)))) }
     {
         if let Some(bytes) = self.file(server, name) {
             let rest = &bytes[at as usize..];
@@ -100,13 +103,13 @@ impl MemSite {
 }
 
 impl MemSite {
-    ghost use Rattle.std.specs.Prelude.{◌≡◌, ◌≢◌, ◌<◌, ◌≤◌, ◌||◌, ◌==◌, if◌then◌else◌, ℕ, [], Some, None, IfOk, OnOk, OnErr, min};
+    ghost use Rattle.std.specs.Prelude.{◌≡◌, ◌≢◌, ◌<◌, ◌≤◌, ◌||◌, ◌==◌, if◌then◌else◌, ℕ, false, [], Some, None, IfOk, OnOk, OnErr, min};
     ghost use Rattle.site_model.specs.Disk.{Place, standing};
     ghost use Rattle.site_mem.specs.Events.{added, told, done, put_file};
     ghost use Rattle.site_mem.specs.Kept.{seen, place_of, file_of};
     ghost use Rattle.site_mem.specs.Torn.{IsTorn, IsLeftBy, torn_file, firm_of};
     ghost use Rattle.site_mem.specs.Failing.{lower};
-    ghost use Rattle.site_mem.specs.Site.{disk_at, counts_at, wants_at, fails_at, reads_fail_at, call_at, IsFresh, IsUnused, KeepsUnused, KeepsAll, KeepsListed, KeepsCounts, KeepsCalls};
+    ghost use Rattle.site_mem.specs.Site.{disk_at, counts_at, wants_at, fails_at, reads_fail_at, call_at, loses_at, IsLeftSinceStart, IsFresh, IsUnused, KeepsUnused, KeepsAll, KeepsListed, KeepsCounts, KeepsCalls};
 
     /// A site of so many servers, with no file, nothing said, no call made and none listed.
     #[tactic(auto, unfolding(crate::specs::Held::disk_held))]
@@ -129,7 +132,8 @@ impl MemSite {
     pub fn add_file(&mut self, server: u32, name: &str, bytes: &[u8]) -> Result<(), AllocError>
         requires server { server < self.old.servers }
         requires none_made { (counts_at self.old).calls ≡ 0 }
-        ensures ok { OnOk result (disk_at self.new ≡ done (added (server, name.now) bytes.now) (disk_at self.old)) }
+        ensures ok { OnOk result (disk_at self.new ≡ done (added (server, name.now) bytes.now)
+            (disk_at self.old)) }
         ensures err { OnErr result (disk_at self.new ≡ disk_at self.old) }
         ensures counts { KeepsCounts self.old self.new }
         ensures listed { KeepsListed self.old self.new }
@@ -144,7 +148,8 @@ impl MemSite {
 
     /// The call with this number, from 1, is to fail.
     pub fn fail_call(&mut self, call: u64) -> Result<(), AllocError>
-        ensures ok { OnOk result ((number : ℕ) → fails_at self.new number ≡ (number == call) || fails_at self.old number) }
+        ensures ok { OnOk result ((number : ℕ)
+            → fails_at self.new number ≡ (number == call) || fails_at self.old number) }
         ensures err { OnErr result ((number : ℕ) → fails_at self.new number ≡ fails_at self.old number) }
         ensures reads { (server : ℕ) → reads_fail_at self.new server ≡ reads_fail_at self.old server }
         ensures kept { KeepsAll self.old self.new }
@@ -156,7 +161,8 @@ impl MemSite {
     pub fn fail_reads(&mut self, server: u32, from: u64)
         requires { server < self.old.servers }
         ensures here { reads_fail_at self.new server ≡ Some (lower from (reads_fail_at self.old server)) }
-        ensures others { (other : ℕ) → other ≢ server → reads_fail_at self.new other ≡ reads_fail_at self.old other }
+        ensures others { (other : ℕ) → other ≢ server
+            → reads_fail_at self.new other ≡ reads_fail_at self.old other }
         ensures calls { (number : ℕ) → fails_at self.new number ≡ fails_at self.old number }
         ensures kept { KeepsAll self.old self.new }
     {
@@ -166,7 +172,8 @@ impl MemSite {
     /// The server's files are gone.
     pub fn lose(&mut self, server: u32)
         requires { server < self.old.servers }
-        ensures files { (k : Place) → (disk_at self.new).files k ≡ (if k.0 == server then None else (disk_at self.old).files k) }
+        ensures files { (k : Place) → (disk_at self.new).files k
+            ≡ (if k.0 == server then None else (disk_at self.old).files k) }
         ensures said { (disk_at self.new).said ≡ (disk_at self.old).said }
         ensures past { (disk_at self.new).past ≡ (disk_at self.old).past }
         ensures kept { KeepsCounts self.old self.new }
@@ -181,11 +188,16 @@ impl MemSite {
     /// The tear says what stays of the bytes that weren't firm. With `Tear::None` nothing of the call happened
     /// either; with another one an append, a cut, a rename or a remove did. Of what is said in the call nothing
     /// was said with `Tear::None`, the first half with `Tear::Half`, and else the whole.
+    ///
+    /// It is what a stop since the site's start may leave, whoever made the call, unless the files of a server
+    /// were lost between this call and the next.
     pub fn left(&self, alloc: Global, call: u64, tear: Tear) -> Result<MemSite, AllocError>
         requires some { 0 < call }
         requires made { call ≤ (counts_at self.now).calls }
         ensures torn { IfOk result (λ m. IsTorn tear (call_at self.now call) (disk_at m)) }
         ensures left { IfOk result (λ m. IsLeftBy (call_at self.now call) (disk_at m)) }
+        ensures since_start { IfOk result (λ m. loses_at self.now call ≡ false
+            → IsLeftSinceStart self.now (disk_at m)) }
         ensures unused { IfOk result (IsUnused self.now.servers) }
     {
         let mut contents = self.history.contents_at(alloc, call)?;
@@ -196,6 +208,15 @@ impl MemSite {
             site.add_torn(alloc, file, tear)?;
         }
         Ok(site)
+    }
+
+    /// Whether a server lost its files after the call with this number, and before the next call that can change
+    /// something.
+    #[tactic(auto, unfolding(crate::specs::Held::loss_held))]
+    pub fn loses_after(&self, call: u64) -> bool
+        ensures { result ≡ loses_at self.now call }
+    {
+        self.history.loses_after(call)
     }
 
     // Something that was said, before the first call.
@@ -212,7 +233,8 @@ impl MemSite {
         requires server { file.now.server < self.old.servers }
         requires none_made { (counts_at self.old).calls ≡ 0 }
         requires absent { (disk_at self.old).files (place_of file.now) ≡ None }
-        ensures files { OnOk result ((disk_at self.new).files ≡ put_file (place_of file.now) (firm_of (torn_file tear (file_of file.now))) (disk_at self.old).files) }
+        ensures files { OnOk result ((disk_at self.new).files ≡ put_file (place_of file.now)
+            (firm_of (torn_file tear (file_of file.now))) (disk_at self.old).files) }
         ensures said { OnOk result ((disk_at self.new).said ≡ (disk_at self.old).said) }
         ensures past { OnOk result ((disk_at self.new).past ≡ (disk_at self.old).past) }
         ensures unused { OnOk result (KeepsUnused self.old self.new) }
@@ -278,11 +300,14 @@ impl Site for MemSite {
 
     fn list(&mut self, alloc: Global, server: u32) -> Result<Vec<String>, SiteError>
         requires { server < self.old.servers }
-        ensures names { IfOk result (λ names. IsListOf (disk_at self.old).files server (map string_bytes names.items)) }
+        ensures names { IfOk result (λ names. IsListOf (disk_at self.old).files server
+            (map string_bytes names.items)) }
         ensures same { disk_at self.new ≡ disk_at self.old }
-        ensures counts { CountsRead server 0 (counts_at self.old) (counts_at self.new) (IsErrOf result SiteError.Failed) }
+        ensures counts { CountsRead server 0 (counts_at self.old) (counts_at self.new)
+            (IsErrOf result SiteError.Failed) }
         ensures servers { self.new.servers ≡ self.old.servers }
-        ensures looked { Looks (fails_at self.old (next_at self.old)) self.old self.new (IsErrOf result SiteError.Failed) }
+        ensures looked { Looks (fails_at self.old (next_at self.old)) self.old self.new
+            (IsErrOf result SiteError.Failed) }
     {
         let is_listed = self.fails_next();
         self.look(server, 0, is_listed);
@@ -313,10 +338,13 @@ impl Site for MemSite {
 
     fn read(&mut self, server: u32, name: &str, at: u64, out: &mut [u8]) -> Result<(), Failed>
         requires server { server < self.old.servers }
-        requires within { at + length out.old ≤ length (bytes_of ((disk_at self.old).files (server, name.now))) }
-        ensures bytes { OnOk result (out.new ≡ take (length out.old) (drop at (bytes_of ((disk_at self.old).files (server, name.now))))) }
+        requires within { at + length out.old
+            ≤ length (bytes_of ((disk_at self.old).files (server, name.now))) }
+        ensures bytes { OnOk result (out.new ≡ take (length out.old)
+            (drop at (bytes_of ((disk_at self.old).files (server, name.now))))) }
         ensures same { disk_at self.new ≡ disk_at self.old }
-        ensures counts { CountsRead server (length out.old) (counts_at self.old) (counts_at self.new) (IsErr result) }
+        ensures counts { CountsRead server (length out.old) (counts_at self.old) (counts_at self.new)
+            (IsErr result) }
         ensures servers { self.new.servers ≡ self.old.servers }
         ensures looked { Looks (read_fails_next self.old server) self.old self.new (IsErr result) }
     {
@@ -331,11 +359,14 @@ impl Site for MemSite {
 
     fn append(&mut self, server: u32, name: &str, bytes: &[u8]) -> Result<(), Failed>
         requires { server < self.old.servers }
-        ensures done { OnOk result ((disk_at self.new).files (server, name.now) ≡ Some (grown ((disk_at self.old).files (server, name.now)) bytes.now)) }
+        ensures done { OnOk result ((disk_at self.new).files (server, name.now)
+            ≡ Some (grown ((disk_at self.old).files (server, name.now)) bytes.now)) }
         ensures effect { Appends (server, name.now) bytes.now (disk_at self.old) (disk_at self.new) }
-        ensures counts { CountsWrite server (length bytes.now) (counts_at self.old) (counts_at self.new) (IsErr result) }
+        ensures counts { CountsWrite server (length bytes.now) (counts_at self.old) (counts_at self.new)
+            (IsErr result) }
         ensures servers { self.new.servers ≡ self.old.servers }
-        ensures made { Makes (called (appends (server, name.now) bytes.now)) self.old self.new (is_err result) }
+        ensures made { Makes (called (appends (server, name.now) bytes.now)) self.old self.new
+            (is_err result) }
     {
         self.make(Asked::Append {
             server,
@@ -346,7 +377,8 @@ impl Site for MemSite {
 
     fn sync(&mut self, server: u32, name: &str) -> Result<(), Failed>
         requires { server < self.old.servers }
-        ensures done { OnOk result ((disk_at self.new).files (server, name.now) ≡ synced ((disk_at self.old).files (server, name.now))) }
+        ensures done { OnOk result ((disk_at self.new).files (server, name.now)
+            ≡ synced ((disk_at self.old).files (server, name.now))) }
         ensures effect { Syncs (server, name.now) (disk_at self.old) (disk_at self.new) }
         ensures counts { CountsWrite server 0 (counts_at self.old) (counts_at self.new) (IsErr result) }
         ensures servers { self.new.servers ≡ self.old.servers }
@@ -357,7 +389,8 @@ impl Site for MemSite {
 
     fn cut(&mut self, server: u32, name: &str, length: u64) -> Result<(), Failed>
         requires { server < self.old.servers }
-        ensures done { OnOk result ((disk_at self.new).files (server, name.now) ≡ cut_to length ((disk_at self.old).files (server, name.now))) }
+        ensures done { OnOk result ((disk_at self.new).files (server, name.now)
+            ≡ cut_to length ((disk_at self.old).files (server, name.now))) }
         ensures effect { Cuts (server, name.now) length (disk_at self.old) (disk_at self.new) }
         ensures counts { CountsWrite server 0 (counts_at self.old) (counts_at self.new) (IsErr result) }
         ensures servers { self.new.servers ≡ self.old.servers }
@@ -372,11 +405,13 @@ impl Site for MemSite {
 
     fn rename(&mut self, server: u32, old: &str, new: &str) -> Result<(), Failed>
         requires { server < self.old.servers }
-        ensures done { OnOk result (IsRenamed (server, old.now) (server, new.now) (disk_at self.old).files (disk_at self.new).files) }
+        ensures done { OnOk result (IsRenamed (server, old.now) (server, new.now) (disk_at self.old).files
+            (disk_at self.new).files) }
         ensures effect { Renames (server, old.now) (server, new.now) (disk_at self.old) (disk_at self.new) }
         ensures counts { CountsWrite server 0 (counts_at self.old) (counts_at self.new) (IsErr result) }
         ensures servers { self.new.servers ≡ self.old.servers }
-        ensures made { Makes (called (renames (server, old.now) (server, new.now))) self.old self.new (is_err result) }
+        ensures made { Makes (called (renames (server, old.now) (server, new.now))) self.old self.new
+            (is_err result) }
     {
         self.make(Asked::Rename { server, old, new })
     }

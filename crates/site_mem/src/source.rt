@@ -1,5 +1,5 @@
 // A source in memory.
-ghost use Rattle.std.specs.Prelude.{◌≤◌, length};
+ghost use Rattle.std.specs.Prelude.{◌≡◌, ◌≤◌, length};
 
 use site_model::{Failed, Source};
 use std::alloc::{AllocError, Global};
@@ -14,6 +14,7 @@ pub struct MemSource {
     faults: u64,
     taken: u64,
     ghost within: { at ≤ length bytes.items },
+    ghost counted: { taken ≡ at },
 }
 
 impl MemSource {
@@ -57,8 +58,13 @@ impl Source for MemSource {
     fn read(&mut self, out: &mut [u8]) -> Result<usize, Failed>
         requires { 0 < length out.old }
         ensures bound { IfOk result (λ n. n ≡ min (length out.old) (length (left_of self.old))) }
-        ensures bytes { MatchResult result (λ n. Reads n out.new (Some (left_of self.old)) (Some (left_of self.new))) (λ _. left_of self.new ≡ left_of self.old) }
-        ensures taken { MatchResult result (λ n. taken_of self.new ≡ min (taken_of self.old + n) (2 ^ 64 - 1)) (λ _. taken_of self.new ≡ taken_of self.old) }
+        ensures bytes { MatchResult result
+            (λ n. Reads n out.new (Some (left_of self.old)) (Some (left_of self.new)))
+            (λ _. left_of self.new ≡ left_of self.old) }
+        ensures taken { MatchResult result (λ n. taken_of self.new ≡ min (taken_of self.old + n) (2 ^ 64 - 1))
+            (λ _. taken_of self.new ≡ taken_of self.old) }
+        ensures place { taken_of self.new + length (left_of self.new) ≡ taken_of self.old + length
+            (left_of self.old) }
         ensures cause { FaultsRise (faults_of self.old) (faults_of self.new) (IsErr result) }
         ensures listed { IsErr result ↔ (failing_of self.old ≡ Some (next_read self.old)) }
         ensures reads { reads_of self.new ≡ next_read self.old }

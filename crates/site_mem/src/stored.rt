@@ -92,7 +92,8 @@ impl Stored {
         server: u32,
         names: &mut Vec<String>,
     ) -> Result<(), AllocError>
-        ensures { OnOk result (map string_bytes names.new.items ≡ map string_bytes names.old.items ++ names_at server (self.now ∷ [])) }
+        ensures { OnOk result (map string_bytes names.new.items ≡ map string_bytes names.old.items ++ names_at
+            server (self.now ∷ [])) }
     {
         if self.server == server {
             names.push(self.name.as_str().to_string(alloc)?)?;

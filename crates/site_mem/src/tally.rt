@@ -88,7 +88,8 @@ impl Tally {
     pub fn count(&mut self, request: &Request<'_>, failed: bool)
         requires call { IsCall (event_now request.now) }
         requires within { IsWithin 64 (event_now request.now) }
-        ensures counts { CountsEvent (event_now request.now) (counts_of self.old) (counts_of self.new) (IsTrue failed) }
+        ensures counts { CountsEvent (event_now request.now) (counts_of self.old) (counts_of self.new)
+            (IsTrue failed) }
         ensures calls { self.new.calls ≡ next_call self.old }
     {
         match request {

@@ -168,3 +168,18 @@ fn a_stop_leaves_a_rename_or_not_and_a_part_of_what_is_said(rt: HostRuntime) -> 
     see_left(&rt, alloc, &site, 2, Tear::All, "b", Some(b"old"), b"abcde")?;
     Ok(())
 }
+
+#[test]
+fn a_loss_between_two_calls_is_told(rt: HostRuntime) -> Result<(), Fail> {
+    let mut site = MemSite::new(rt.alloc(), 1)?;
+    site.add_file(0, "a", b"old")?;
+    let size = site.size(0, "a")?;
+    assert_eq!(rt; size, Some(3));
+    assert_eq!(rt; site.loses_after(1), false);
+    site.lose(0);
+    assert_eq!(rt; site.loses_after(1), true);
+    site.say(b"on")?;
+    assert_eq!(rt; site.loses_after(1), true);
+    assert_eq!(rt; site.loses_after(2), false);
+    Ok(())
+}

@@ -20,8 +20,10 @@ pub trait Source {
     fn read(&mut self, out: &mut [u8]) -> Result<usize, Failed>
         requires { 0 < length out.old }
         ensures bound { IfOk result (λ n. n ≤ length out.old) }
-        ensures bytes { MatchResult result (λ n. Reads n out.new (left self.old) (left self.new)) (λ _. left self.new ≡ left self.old) }
-        ensures taken { MatchResult result (λ n. taken self.new ≡ min (taken self.old + n) (2 ^ 64 - 1)) (λ _. taken self.new ≡ taken self.old) }
+        ensures bytes { MatchResult result (λ n. Reads n out.new (left self.old) (left self.new))
+            (λ _. left self.new ≡ left self.old) }
+        ensures taken { MatchResult result (λ n. taken self.new ≡ min (taken self.old + n) (2 ^ 64 - 1))
+            (λ _. taken self.new ≡ taken self.old) }
         ensures cause { FaultsRise (faults self.old) (faults self.new) (IsErr result) };
 }
 

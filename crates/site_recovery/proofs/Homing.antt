@@ -9,7 +9,7 @@ use Rattle.std.proofs.lemmas.List.Elements.{Contains-append_left, Contains-push,
 use Rattle.site_model.specs.Disk.{File, Files, IsPossible, size_of, bytes_of}
 use Rattle.site_model.specs.Disk as disk
 use Rattle.world_model.specs.declared.types.Mode.TheVariants as mode
-use Rattle.wire_num.specs.NumberLaws.{AreBytes}
+use Rattle.wire_num.specs.Laws.Number.{AreBytes}
 use Rattle.volume_forms.specs.Forms.{has_super}
 use Rattle.file_names.specs.declared.Kind.TheVariants.{Dat, Idx, Shard, Cpx}
 use Rattle.file_names.specs.Names.{max_shards}
@@ -20,15 +20,15 @@ use Rattle.image_meaning.specs.Coded.{ratio_of}
 use Rattle.world_model.specs.Ratios.{data_count, data_count-some}
 use Rattle.image_meaning.specs.Meaning.{mode_of, has_long_dat, max_volumes}
 use Rattle.image_meaning.specs.Sound.{HasIndex, HasEntries, HasOneHome, HasSuper, IsPlain}
-use Rattle.image_meaning.specs.PlainLaws.{lowest-all_fail}
+use Rattle.image_meaning.specs.Laws.Plain.{lowest-all_fail}
 use Rattle.image_meaning.specs.Laws.Servers.{lowest-some, lowest-exists}
 use Rattle.image_meaning.specs.Laws.PlainLoss.{is_plain}
 use Rattle.image_meaning.specs.Laws.Views.{index_named}
 use Rattle.dat_volume.specs.Opening.{counted}
-use Rattle.dat_volume.specs.OpeningLaws.{counted-idx}
+use Rattle.dat_volume.specs.Laws.Opening.{counted-idx}
 use Rattle.site_recovery.specs.Recovering.{HasNoCoded}
 use Rattle.site_recovery.specs.Tests.{count_at, entries_in, kept_index, PassesRecords, PassesHomes, PassesTests, FailsFirst}
-use Rattle.site_recovery.specs.TestLaws.{same_counts, same_fronts, fails_broken}
+use Rattle.site_recovery.specs.Laws.Test.{same_counts, same_fronts, fails_broken}
 use Rattle.site_recovery.specs.declared.forms.Home.{Home}
 use Rattle.site_recovery.specs.Homes.{IsHome, HasNoneBefore, AreHomes, IsBroken}
 use Rattle.site_recovery.proofs.Places.{no_coded_at}

@@ -2,30 +2,25 @@
 use Rattle.std.proofs.Common.{◌≡◌, ◌≢◌, ◌⊎◌, inl, inr, ⊎_elim, ℕ, ◌<◌, true, false, Option, Some, None, is_some, List, IsTrue, refl, sym, ◌∙◌, ap, subst}
 use Rattle.std.specs.Prelude.{unwrap_or, []}
 use Rattle.std.proofs.lemmas.Bool.{cases_eq}
-use Rattle.site_model.specs.Disk.{Place, Files, Image, IsFirm, LeftOf, LeftOfAll, IsRenamed, Renames, Disk}
+use Rattle.site_model.specs.Disk.{Place, Files, Image, IsFirm, LeftOf, LeftOfAll, IsRenamed, Renames, Disk, IsSettled}
 use Rattle.site_model.specs.Disk as disk
 use Rattle.site_model.specs.Leaves.{Leaves, starts, weaker, by_rename, place_cases}
 use Rattle.site_model.specs.Touches.{firm_left, touches_rename, touches_more}
 use Rattle.file_names.specs.declared.Kind.{Kind}
 use Rattle.file_names.specs.declared.Kind.TheVariants.{Dat, Idx, Cpd, Cpx}
-use Rattle.file_names.specs.Names.{name_bytes}
 use Rattle.image_meaning.specs.Files.{VolumeFiles, contents, place_of, files_of, stands, lowest, index_bytes, dat_bytes}
 use Rattle.image_meaning.specs.Plain.{index_home}
 use Rattle.image_meaning.specs.Meaning.{max_volumes}
 use Rattle.image_meaning.specs.Laws.PlainLoss.{home_has}
-use Rattle.image_meaning.specs.VacuumLaws.{HasSameViews, thinned_by, same_four, dat_moved, index_moved}
+use Rattle.image_meaning.specs.Laws.Vacuum.{HasSameViews, thinned_by, same_four, dat_moved, index_moved}
 use Rattle.dat_volume.specs.Opening.{KeepsLengths}
-use Rattle.site_recovery.specs.Recovering.{IsSettled}
 use Rattle.site_recovery.specs.Steps.{KeepsMeaning}
-use Rattle.site_recovery.specs.StepLaws.{keeps_none, keeps_plain, reduced_thinned, kinds_apart}
+use Rattle.site_recovery.specs.Laws.Step.{keeps_none, keeps_plain, reduced_thinned, kinds_apart}
 use Rattle.site_recovery.specs.Homes.{IsTestedPlain}
 use Rattle.site_recovery.specs.Changes.{IsPlainKind, IsOf, Settles, KeepsViews, HasNamedDat}
 use Rattle.site_recovery.specs.Renaming.{RenamesKind, IsRenamedKind}
 use Rattle.site_recovery.proofs.Places.{plain_kind}
-
--- how a file of the volume is spelled
-abbrev spelled : ℕ → Kind → List ℕ
-spelled v kind = name_bytes (record { volume = v; kind = kind; temp = false })
+use Rattle.site_recovery.proofs.Taking.{settles_on}
 
 -- ---- one rename
 
@@ -86,7 +81,7 @@ module _ (files left : VolumeFiles) (same : (server : ℕ) → HasSameViews file
   pub same_home : index_home left ≡ index_home files
   same_home = λ i. lowest (λ s. is_some ((same s).index i))
 
-  pub same_tested : (home : ℕ) (lengths : ℕ × ℕ) → IsTestedPlain files home lengths → IsTestedPlain left home lengths
+  same_tested : (home : ℕ) (lengths : ℕ × ℕ) → IsTestedPlain files home lengths → IsTestedPlain left home lengths
   same_tested home lengths tested =
       let dat : dat_bytes left home ≡ dat_bytes files home = ap (λ (o : Option (List ℕ)). unwrap_or o []) (same home).dat in
       let idx : index_bytes left home ≡ index_bytes files home = ap (λ (o : Option (List ℕ)). unwrap_or o []) (same home).index in
@@ -95,8 +90,16 @@ module _ (files left : VolumeFiles) (same : (server : ℕ) → HasSameViews file
         keeps = subst (λ d. KeepsLengths d (index_bytes left home) lengths) (sym dat) (subst (λ i. KeepsLengths (dat_bytes files home) i lengths) (sym idx) tested.keeps);
       }
 
-pub views_on : (files between left : VolumeFiles) (server : ℕ) → HasSameViews files between server → HasSameViews between left server → HasSameViews files left server
-views_on files between left server first second = record { index = second.index ∙ first.index; dat = second.dat ∙ first.dat }
+-- what was tested holds of the files that are named
+pub named_tested : (v home : ℕ) (lengths : ℕ × ℕ) (old new : Files) → KeepsViews v old new → IsTestedPlain (files_of (contents old) v) home lengths → IsTestedPlain (files_of (contents new) v) home lengths
+named_tested v home lengths old new keeps tested = same_tested (files_of (contents old) v) (files_of (contents new) v) keeps.views home lengths tested
+
+-- one after the other
+pub keeps_views_on : {v : ℕ} {old mid new : Files} → KeepsViews v old mid → KeepsViews v mid new → KeepsViews v old new
+keeps_views_on first second = record {
+  views = λ s. record { index = (second.views s).index ∙ (first.views s).index; dat = (second.views s).dat ∙ (first.views s).dat };
+  settled = λ settled. second.settled (first.settled settled);
+}
 
 -- ---- the renames of what a vacuum made
 
@@ -150,63 +153,47 @@ module _ (v home : ℕ) (h : v < max_volumes) where
         keeps_plain old new v home h is (λ k none. moved.others k (none home a) (none home b))
         (reduced_thinned (files_of old v) (files_of new v) home (thinned_by (files_of old v) (files_of new v) (λ s. inl (views s))) (has.0, ap is_some (views home).index ∙ has.1))
 
-  module _ (old new : Disk) (is : index_home (files_of (contents old.files) v) ≡ Some home) (index : IsTrue (stands (files_of (contents old.files) v) home Cpx)) where
-    -- the data file that a vacuum made gets its name
-    module _ (made : IsTrue (stands (files_of (contents old.files) v) home Cpd)) (did : RenamesKind v home Cpd Dat old new) where
-      pub names_dat : Settles (IsOf v false) old new
-      names_dat = settles_renames cpd_apart (home, Cpd, tt, refl) (home, Dat, tt, refl)
-          (λ image moved. keeps_views (contents old.files) image Cpd Dat is moved (dat_views (contents old.files) image index made moved)) did
+  -- The data file gets its name, after a look at the site.
+  module _ (start look new : Disk) (same : look ≡ start) (is : index_home (files_of (contents start.files) v) ≡ Some home) (index : IsTrue (stands (files_of (contents start.files) v) home Cpx))
+      (made : IsTrue (stands (files_of (contents start.files) v) home Cpd)) (did : RenamesKind v home Cpd Dat look new) where
+    from_start : RenamesKind v home Cpd Dat start new
+    from_start = subst (λ (d : Disk). RenamesKind v home Cpd Dat d new) same did
 
-      pub dat_named_now : IsRenamedKind v home Cpd Dat old new → HasNamedDat v home old.files new.files
-      dat_named_now done =
-          let moved = renamed_moved cpd_apart did done in
-          record {
-            keeps = record { views = dat_views (contents old.files) (contents new.files) index made moved; settled = renamed_settled cpd_apart did done };
-            index = ap is_some (stays_at (contents old.files) (contents new.files) Cpd Dat Cpx tt tt tt (λ e. cc) (λ e. cc) moved home) ∙ index;
-            named = ap is_some moved.gone;
-          }
+    pub names_dat : Settles (IsOf v false) start new
+    names_dat = settles_renames cpd_apart (home, Cpd, tt, refl) (home, Dat, tt, refl)
+        (λ image moved. keeps_views (contents start.files) image Cpd Dat is moved (dat_views (contents start.files) image index made moved)) from_start
 
-    -- and then the index
-    module _ (none : stands (files_of (contents old.files) v) home Cpd ≡ false) (did : RenamesKind v home Cpx Idx old new) where
-      pub names_index : Settles (IsOf v false) old new
-      names_index = settles_renames cpx_apart (home, Cpx, tt, refl) (home, Idx, tt, refl)
-          (λ image moved. keeps_views (contents old.files) image Cpx Idx is moved (index_views (contents old.files) image index none moved)) did
+    pub has_named_dat : IsRenamedKind v home Cpd Dat look new → HasNamedDat v home start.files new.files
+    has_named_dat done =
+        let renamed = subst (λ (d : Disk). IsRenamedKind v home Cpd Dat d new) same done in
+        let moved = renamed_moved cpd_apart from_start renamed in
+        record {
+          keeps = record { views = dat_views (contents start.files) (contents new.files) index made moved; settled = renamed_settled cpd_apart from_start renamed };
+          index = ap is_some (stays_at (contents start.files) (contents new.files) Cpd Dat Cpx tt tt tt (λ e. cc) (λ e. cc) moved home) ∙ index;
+          named = ap is_some moved.gone;
+        }
 
-      module _ (done : IsRenamedKind v home Cpx Idx old new) where
-        pub index_keeps : KeepsViews v old.files new.files
-        index_keeps =
-            let moved = renamed_moved cpx_apart did done in
-            record { views = index_views (contents old.files) (contents new.files) index none moved; settled = renamed_settled cpx_apart did done }
+  -- And then the index gets its own.
+  module _ (start look mid new : Disk) (same : look ≡ start) (is : index_home (files_of (contents start.files) v) ≡ Some home) (first : HasNamedDat v home look.files mid.files)
+      (did : RenamesKind v home Cpx Idx mid new) where
+    named : HasNamedDat v home start.files mid.files
+    named = subst (λ (d : Disk). HasNamedDat v home d.files mid.files) same first
 
-        pub index_unmade : stands (files_of (contents new.files) v) home Cpx ≡ false
-        index_unmade = ap is_some (renamed_moved cpx_apart did done).gone
+    mid_home : index_home (files_of (contents mid.files) v) ≡ Some home
+    mid_home = same_home (files_of (contents start.files) v) (files_of (contents mid.files) v) named.keeps.views ∙ is
 
--- one after the other
-pub keeps_views_on : {v : ℕ} {old mid new : Files} → KeepsViews v old mid → KeepsViews v mid new → KeepsViews v old new
-keeps_views_on {v} {old} {mid} {new} first second = record {
-  views = λ s. views_on (files_of (contents old) v) (files_of (contents mid) v) (files_of (contents new) v) s (first.views s) (second.views s);
-  settled = λ settled. second.settled (first.settled settled);
-}
+    pub names_index : Settles (IsOf v false) look mid → Settles (IsOf v false) start new
+    names_index names =
+        settles_on named.keeps.settled (subst (λ (d : Disk). Settles (IsOf v false) d mid) same names)
+        (settles_renames cpx_apart (home, Cpx, tt, refl) (home, Idx, tt, refl)
+        (λ image moved. keeps_views (contents mid.files) image Cpx Idx mid_home moved (index_views (contents mid.files) image named.index named.named moved)) did)
 
-pub keeps_views_look : {v : ℕ} {old new : Disk} → new ≡ old → KeepsViews v old.files new.files
-keeps_views_look {v} {old} same = subst (λ (d : Disk). KeepsViews v old.files d.files) (sym same) (record { views = λ s. record { index = refl; dat = refl }; settled = λ settled. settled })
+    module _ (done : IsRenamedKind v home Cpx Idx mid new) where
+      pub index_keeps : KeepsViews v start.files new.files
+      index_keeps = keeps_views_on named.keeps (record {
+        views = index_views (contents mid.files) (contents new.files) named.index named.named (renamed_moved cpx_apart did done);
+        settled = renamed_settled cpx_apart did done;
+      })
 
--- ---- the names as they are spelled
-
-module _ (v server : ℕ) (kind new_kind : Kind) (name new_name : List ℕ) (is : name ≡ spelled v kind) (new_is : new_name ≡ spelled v new_kind) where
-  spells : (server, name) ≡ place_of v server kind false
-  spells = λ i. (server, is i)
-
-  new_spells : (server, new_name) ≡ place_of v server new_kind false
-  new_spells = λ i. (server, new_is i)
-
-  pub renames_by : {old new : Disk} → Renames (server, name) (server, new_name) old new → RenamesKind v server kind new_kind old new
-  renames_by {old} {new} did = subst (λ p. Renames p (place_of v server new_kind false) old new) spells (subst (λ q. Renames (server, name) q old new) new_spells did)
-
-  pub renamed_by : (old new : Disk) → IsRenamed (server, name) (server, new_name) old.files new.files → IsRenamedKind v server kind new_kind old new
-  renamed_by old new done =
-      subst (λ p. IsRenamed p (place_of v server new_kind false) old.files new.files) spells (subst (λ q. IsRenamed (server, name) q old.files new.files) new_spells done)
-
--- nothing was renamed
-pub renames_none : {from to : Place} (d : Disk) → Renames from to d d
-renames_none d = record { past = inr refl; said = refl; others = λ k a b. refl; either = inl refl }
+      pub index_unmade : stands (files_of (contents new.files) v) home Cpx ≡ false
+      index_unmade = ap is_some (renamed_moved cpx_apart did done).gone

@@ -8,7 +8,7 @@ use Rattle.file_names.specs.Names.{name_bytes}
 use Rattle.file_names.specs.declared.Kind.TheVariants.{Dat, Cpd, Shard}
 use Rattle.image_meaning.specs.Files.{VolumeFiles, place_of, shard_home}
 use Rattle.site_recovery.specs.Changes.{IsKindAt, LacksSome, TakesAway}
-use Rattle.site_recovery.specs.CodedGone.{IsSpare, AreGoneBelow, IsBeside, IsGoneBeside, ClearsUnless}
+use Rattle.site_recovery.specs.CodedGone.{IsSpare, AreGoneBelow, IsUnkept, IsGoneBeside, ClearsUnless}
 use Rattle.site_recovery.proofs.Taking.{takes_on, takes_more, takes_clear}
 use Rattle.site_recovery.proofs.Gone.{stays_gone}
 
@@ -55,8 +55,8 @@ module _ (v : ℕ) (kind : Kind) (keeps : List Bool) where
   keep_at server = slice_index_or keeps server false
 
   -- one server more
-  pub takes_beside : (server : ℕ) (name : List ℕ) (b : Bool) {old mid new : Disk} → name ≡ spelled → b ≡ keep_at server → TakesAway (IsBeside v kind keeps) old mid → ClearsUnless b (server, name) mid new → TakesAway (IsBeside v kind keeps) old new
-  takes_beside server name true {old} e same first did = subst (λ (d : Disk). TakesAway (IsBeside v kind keeps) old d) (sym (did.kept refl)) first
+  pub takes_beside : (server : ℕ) (name : List ℕ) (b : Bool) {old mid new : Disk} → name ≡ spelled → b ≡ keep_at server → TakesAway (IsUnkept v kind keeps) old mid → ClearsUnless b (server, name) mid new → TakesAway (IsUnkept v kind keeps) old new
+  takes_beside server name true {old} e same first did = subst (λ (d : Disk). TakesAway (IsUnkept v kind keeps) old d) (sym (did.kept refl)) first
   takes_beside server name false e same first did = takes_on first (takes_clear (server, (λ i. (server, e i)), sym same) (did.cleared refl))
 
   abbrev pub BesideBelow : ℕ → Files → Type 0

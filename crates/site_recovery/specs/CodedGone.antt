@@ -15,7 +15,7 @@ use Rattle.image_meaning.specs.CodedCopies.{IsCodedThinned, gone_held}
 use Rattle.site_recovery.specs.Steps.{KeepsMeaning}
 use Rattle.site_recovery.specs.Changes.{LacksSome, TakesAway, Settles}
 use Rattle.site_recovery.specs.CodedSteps.{HaveSameIds}
-use Rattle.site_recovery.specs.CodedStepLaws.{keeps_coded_thinned}
+use Rattle.site_recovery.specs.Laws.CodedStep.{keeps_coded_thinned}
 
 -- a data file, also one that a vacuum made, any copy of a shard but the lowest, and what stands beside no shard
 abbrev pub MayGo : VolumeFiles → ℕ → Kind → Type 0
@@ -87,8 +87,8 @@ AreCopiesGone v files new = AreGoneBelow v files max_shards new
 -- ---- what stands beside no shard
 
 -- the file of this kind at a server that doesn't keep it
-abbrev pub IsBeside : ℕ → Kind → List Bool → Place → Type 0
-IsBeside v kind keeps k = (server : ℕ) × (k ≡ place_of v server kind false) × (slice_index_or keeps server false ≡ false)
+abbrev pub IsUnkept : ℕ → Kind → List Bool → Place → Type 0
+IsUnkept v kind keeps k = (server : ℕ) × (k ≡ place_of v server kind false) × (slice_index_or keeps server false ≡ false)
 
 abbrev pub IsGoneBeside : ℕ → Kind → List Bool → Files → Type 0
 IsGoneBeside v kind keeps files = (server : ℕ) → slice_index_or keeps server false ≡ false → files (place_of v server kind false) ≡ None

@@ -2,8 +2,7 @@
 use Rattle.std.specs.Prelude.{◌≡◌, ◌⊎◌, ℕ, ◌<◌, Bool, IsSome, List, [], map, take, Option, Some, None, Contains, ◌↔◌}
 use Rattle.std.specs.List.Sorted.{IsStrictlyIncreasing}
 use Rattle.std.specs.FinMap.{empty}
-use Rattle.site_model.specs.Disk.{Place, Files, Image, IsFirm, Disk}
-use Rattle.site_model.specs.Counts.{Counts, Rose}
+use Rattle.site_model.specs.Disk.{Place, Files, Image, IsFirm, Disk, IsSettled}
 use Rattle.site_model.specs.Leaves.{Leaves}
 use Rattle.site_model.specs.Touches.{Touches}
 use Rattle.site_model.specs.declared.error.OpenFault.{OpenFault}
@@ -22,10 +21,6 @@ use Rattle.image_meaning.specs.Ends.{IsTidy, MayHave, HasNoFiles}
 use Rattle.dat_volume.specs.Opening.{KeepsLengths}
 use Rattle.site_recovery.specs.declared.recovered.Recovered.{Recovered}
 use Rattle.site_recovery.specs.Tests.{PassesTests, FailsFirst}
-
--- nothing is pending
-abbrev pub IsSettled : Files → Type 0
-IsSettled files = (k : Place) → IsFirm (files k)
 
 -- a file of some volume, by its name
 abbrev pub IsNamed : Place → Type 0
@@ -73,12 +68,6 @@ abbrev pub TellsWhy : OpenFault → Disk → Disk → Type 0
 TellsWhy (open_fault.Unsound volume rule) old new = (((rule ≡ 0) × IsFirstCoded old.files volume) ⊎ IsFirstBroken old.files volume rule) × (new ≡ old)
 TellsWhy (open_fault.Fault server) old new = Unit {0}
 TellsWhy open_fault.Memory old new = Unit {0}
-
--- no count falls, and a fault that is told is counted
-abbrev pub HasCauseIn : OpenFault → Counts → Counts → Type 0
-HasCauseIn (open_fault.Unsound volume rule) old new = Unit {0}
-HasCauseIn (open_fault.Fault server) old new = Rose (old.faults server) (new.faults server)
-HasCauseIn open_fault.Memory old new = Unit {0}
 
 -- ---- what was found
 

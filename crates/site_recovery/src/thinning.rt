@@ -1,10 +1,11 @@
 // Spare copies of a coded volume's files.
-ghost use Rattle.std.specs.Prelude.{◌≤◌, ◌<◌, length, false, None, ◌≡◌, IsTrue, IfErr, OnOk};
+ghost use Rattle.std.specs.Prelude.{◌≤◌, ◌<◌, length, false, None, ◌≡◌, IsTrue, IfErr, IsErrOf, OnOk};
 ghost use Rattle.image_meaning.specs.Files.{contents, files_of};
-ghost use Rattle.site_recovery.specs.Runs.{GoesOn, IsSiteFault};
+ghost use Rattle.site_model.specs.Counts.{Calls};
+ghost use Rattle.site_recovery.specs.Runs.{IsSiteFault};
 ghost use Rattle.site_recovery.specs.Changes.{TakesAway};
 ghost use Rattle.file_names.specs.Names.{IsKind};
-ghost use Rattle.site_recovery.specs.CodedGone.{IsBeside, IsGoneBeside, ClearsUnless, IsSpare, HasShardHomes, AreCopiesGone};
+ghost use Rattle.site_recovery.specs.CodedGone.{IsUnkept, IsGoneBeside, ClearsUnless, IsSpare, HasShardHomes, AreCopiesGone};
 
 use crate::asking::{clear_at, name_of};
 use crate::clearing::clear_kind;
@@ -21,10 +22,13 @@ pub(crate) fn clear_copies<T: Site>(
     homes: &[Option<u32>; 16],
 ) -> Result<(), OpenFault>
     requires { IsTrue T.tells → HasShardHomes (files_of (contents (T.disk site.old).files) volume) homes.now }
-    ensures effect { IsTrue T.tells → TakesAway (IsSpare volume (files_of (contents (T.disk site.old).files) volume)) (T.disk site.old) (T.disk site.new) }
-    ensures done { OnOk result (IsTrue T.tells → AreCopiesGone volume (files_of (contents (T.disk site.old).files) volume) (T.disk site.new).files) }
-    ensures why { IfErr result (IsSiteFault (T.counts site.old) (T.counts site.new)) }
-    ensures runs { GoesOn (T.counts site.old) (T.counts site.new) (T.servers site.old) (T.servers site.new) }
+    ensures effect { IsTrue T.tells → TakesAway
+        (IsSpare volume (files_of (contents (T.disk site.old).files) volume)) (T.disk site.old)
+        (T.disk site.new) }
+    ensures done { OnOk result (IsTrue T.tells
+        → AreCopiesGone volume (files_of (contents (T.disk site.old).files) volume) (T.disk site.new).files) }
+    ensures why { IfErr result IsSiteFault }
+    ensures runs { Calls T.counts T.servers site.old site.new (λ s. IsErrOf result (OpenFault.Fault s)) }
 {
     clear_kind(alloc, site, volume, Kind::Dat, false, None)?;
     clear_kind(alloc, site, volume, Kind::Cpd, false, None)?;
@@ -51,10 +55,11 @@ pub(crate) fn clear_beside<T: Site>(
 ) -> Result<(), OpenFault>
     requires kind { IsKind kind }
     requires enough { T.servers site.old ≤ length keeps.now }
-    ensures effect { IsTrue T.tells → TakesAway (IsBeside volume kind keeps.now) (T.disk site.old) (T.disk site.new) }
+    ensures effect { IsTrue T.tells → TakesAway (IsUnkept volume kind keeps.now) (T.disk site.old)
+        (T.disk site.new) }
     ensures done { OnOk result (IsTrue T.tells → IsGoneBeside volume kind keeps.now (T.disk site.new).files) }
-    ensures why { IfErr result (IsSiteFault (T.counts site.old) (T.counts site.new)) }
-    ensures runs { GoesOn (T.counts site.old) (T.counts site.new) (T.servers site.old) (T.servers site.new) }
+    ensures why { IfErr result IsSiteFault }
+    ensures runs { Calls T.counts T.servers site.old site.new (λ s. IsErrOf result (OpenFault.Fault s)) }
 {
     let name = name_of(alloc, volume, kind, false)?;
     for server in 0..site.servers() {
@@ -65,10 +70,12 @@ pub(crate) fn clear_beside<T: Site>(
 
 fn clear_unless<T: Site>(site: &mut T, server: u32, name: &str, keep: bool) -> Result<(), OpenFault>
     requires { server < T.servers site.old }
-    ensures effect { IsTrue T.tells → ClearsUnless keep (server, name.now) (T.disk site.old) (T.disk site.new) }
-    ensures done { OnOk result (keep ≡ false → IsTrue T.tells → (T.disk site.new).files (server, name.now) ≡ None) }
-    ensures why { IfErr result (IsSiteFault (T.counts site.old) (T.counts site.new)) }
-    ensures runs { GoesOn (T.counts site.old) (T.counts site.new) (T.servers site.old) (T.servers site.new) }
+    ensures effect { IsTrue T.tells → ClearsUnless keep (server, name.now) (T.disk site.old)
+        (T.disk site.new) }
+    ensures done { OnOk result (keep ≡ false → IsTrue T.tells
+        → (T.disk site.new).files (server, name.now) ≡ None) }
+    ensures why { IfErr result IsSiteFault }
+    ensures runs { Calls T.counts T.servers site.old site.new (λ s. IsErrOf result (OpenFault.Fault s)) }
 {
     if keep {
         return Ok(());

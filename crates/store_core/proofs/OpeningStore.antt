@@ -9,7 +9,7 @@ use Rattle.volume_forms.specs.Forms.{has_super}
 use Rattle.needle_record.specs.Records.{Placed, end_of, index_of}
 use Rattle.image_meaning.specs.Files.{VolumeFiles, contents, files_of, temps_of, bytes_at, dat_bytes, index_bytes}
 use Rattle.image_meaning.specs.Plain.{kept_at, index_home, IsExact}
-use Rattle.image_meaning.specs.PlainLaws.{IsAlone, cut_exact, cut_super, exact_kept_records, exact_follows}
+use Rattle.image_meaning.specs.Laws.Plain.{IsAlone, cut_exact, cut_super, exact_kept_records, exact_follows}
 use Rattle.image_meaning.specs.Laws.PlainLoss.{plain_home}
 use Rattle.image_meaning.specs.Meaning.{mode_of, max_volumes}
 use Rattle.image_meaning.specs.Sound.{HasOneRatio, IsSoundVolume, IsSound}
@@ -19,7 +19,7 @@ use Rattle.dat_volume.specs.Places.{dat_in, idx_in}
 use Rattle.dat_volume.specs.Opening.{IsLoaded}
 use Rattle.site_recovery.specs.declared.recovered.Recovered.{Recovered}
 use Rattle.site_recovery.specs.Recovering.{Finds, IsLeftPlain, IsRecovered, IsTidied}
-use Rattle.site_recovery.specs.TestLaws.{left_long, left_only, never_sealed, not_coded}
+use Rattle.site_recovery.specs.Laws.Test.{left_long, left_only, never_sealed, not_coded}
 use Rattle.store_core.specs.declared.slot.Slot.{Slot}
 use Rattle.store_core.specs.declared.slot.Slot.TheVariants as slot
 use Rattle.store_core.specs.declared.store.Store.{Store}

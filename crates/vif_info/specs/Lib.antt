@@ -1,2 +1,2 @@
 pub mod Reads
-pub mod TextLaws
+pub mod Laws

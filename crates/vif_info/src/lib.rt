@@ -6,7 +6,7 @@ ghost use Rattle.std.specs.Prelude.{◌≡◌, ◌⊎◌, codes, IfOk, IfErr, So
 ghost use Rattle.serde_json.specs.Errors.{IsMemory};
 ghost use Rattle.serde_json.specs.View.{view};
 ghost use Rattle.stripe_layout.specs.Information.{number_at, text_at, fields_of, ratio_from, info_of, info_text, json_of};
-ghost use Rattle.stripe_layout.specs.InfoLaws.{IsInRange};
+ghost use Rattle.stripe_layout.specs.Laws.Info.{IsInRange};
 ghost use Rattle.vif_info.specs.Reads.{IsReading, IsNumbers, Says, info_with, value_with, value_without, value_for};
 
 use serde_json::{Error, Value, json};

@@ -3,7 +3,7 @@ use Rattle.std.proofs.Common.{◌≡◌, ℕ, ◌+◌, ◌/◌, ◌≤◌, List,
 use Rattle.volume_forms.specs.declared.Entry.{Entry}
 use Rattle.volume_fix.specs.declared.Past.{Past}
 use Rattle.volume_fix.specs.Walk.{header_length, Walk, entry_or_past, walk}
-use Rattle.volume_fix.specs.WalkLaws.{ends_within, with_entries, ended, walk-found}
+use Rattle.volume_fix.specs.Laws.Walk.{ends_within, with_entries, ended, walk-found}
 
 -- The entries that were appended, and the walk that is left, are the whole walk, and there is room for what is left.
 pub record Walking (end first : ℕ) (chunk : List ℕ) (before : List Entry) (at : ℕ) (rest : List ℕ) (now : List Entry) (count capacity : ℕ) : Type 0 where

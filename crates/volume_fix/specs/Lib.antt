@@ -1,3 +1,2 @@
 pub mod Walk
-pub mod WalkLaws
-pub mod ChunkLaws
+pub mod Laws

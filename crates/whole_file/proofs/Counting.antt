@@ -1,9 +1,9 @@
 -- How many calls bytes take in pieces.
 use Rattle.std.proofs.Common.{◌≡◌, ℕ, ◌+◌, ◌-◌, ◌%◌, ◌<◌, ◌≤◌, min, List, length, take, drop, arith, length-drop}
 use Rattle.std.proofs.lemmas.List.{length-take}
-use Rattle.site_model.specs.Counts.{Counts, CountsRead, CountsWrite, TakesCalls}
-use Rattle.site_model.specs.CountLaws.{takes_on, takes_within, takes_read, takes_write}
-use Rattle.whole_file.specs.Pieces.{widest_piece, read_pieces, pieces_of}
+use Rattle.site_model.specs.Counts.{Counts, CountsRead, CountsWrite, TakesCalls, widest_piece}
+use Rattle.site_model.specs.Laws.Count.{takes_on, takes_within, takes_read, takes_write}
+use Rattle.whole_file.specs.Pieces.{read_pieces, pieces_of}
 
 -- so many of n bytes are appended: whole pieces, where there are more to append
 pub record HasSent (at n : ℕ) (old new : Counts) : Type 0 where

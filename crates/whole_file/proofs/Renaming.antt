@@ -6,7 +6,7 @@ use Rattle.site_model.specs.Touches.{Touches, At, touches_on, touches_more, touc
 use Rattle.file_names.specs.declared.Kind.{Kind}
 use Rattle.file_names.specs.declared.FileName.{FileName}
 use Rattle.file_names.specs.Names.{IsKind, name_bytes}
-use Rattle.file_names.specs.NameLaws.{same_name}
+use Rattle.file_names.specs.Laws.Name.{same_name}
 use Rattle.whole_file.specs.Whole.{AppendsAll, WritesWhole}
 
 pub touches_appended : {p : Place} {bytes : List ℕ} {old new : Disk} → AppendsAll p bytes old new → Touches (At p) old new

@@ -1,10 +1,6 @@
 -- In how many calls bytes are read and appended, of at most 65,536 bytes each.
 use Rattle.std.specs.Prelude.{ℕ, ◌+◌, ◌/◌, max}
 
--- the most bytes in one call
-abbrev pub widest_piece : ℕ
-widest_piece = 65536
-
 -- the pieces in which n bytes are read: none for no byte
 abbrev pub read_pieces : ℕ → ℕ
 read_pieces n = (n + 65535) / 65536

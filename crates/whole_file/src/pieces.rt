@@ -1,7 +1,7 @@
 ghost use Rattle.std.specs.Prelude.{◌≡◌, ◌<◌, ◌+◌, ◌++◌, IsTrue, IsErr, OnOk, length};
 ghost use Rattle.site_model.specs.Disk.{grown, firm_file, bytes_of};
-ghost use Rattle.site_model.specs.Counts.{HasCause, TakesCalls};
-ghost use Rattle.whole_file.specs.Pieces.{pieces_of, widest_piece};
+ghost use Rattle.site_model.specs.Counts.{CallsAt, TakesCalls, widest_piece};
+ghost use Rattle.whole_file.specs.Pieces.{pieces_of};
 ghost use Rattle.whole_file.specs.Whole.{AppendsAll, AppendsFirm};
 
 use crate::PIECE;
@@ -15,12 +15,14 @@ pub fn append_all<T: Site>(
     bytes: &[u8],
 ) -> Result<(), Failed>
     requires { server < T.servers site.old }
-    ensures effect { IsTrue T.tells → AppendsAll (server, name.now) bytes.now (T.disk site.old) (T.disk site.new) }
-    ensures done { OnOk result (IsTrue T.tells → (T.disk site.new).files (server, name.now) ≡ Some (grown ((T.disk site.old).files (server, name.now)) bytes.now)) }
-    ensures calls { TakesCalls (pieces_of (length bytes.now)) widest_piece (T.counts site.old) (T.counts site.new) }
-    ensures cause { HasCause server (T.counts site.old) (T.counts site.new) (IsErr result) }
-    ensures servers { T.servers site.new ≡ T.servers site.old }
-    ensures says { (T.counts site.new).say_faults ≡ (T.counts site.old).say_faults }
+    ensures effect { IsTrue T.tells
+        → AppendsAll (server, name.now) bytes.now (T.disk site.old) (T.disk site.new) }
+    ensures done { OnOk result (IsTrue T.tells
+        → (T.disk site.new).files (server, name.now)
+        ≡ Some (grown ((T.disk site.old).files (server, name.now)) bytes.now)) }
+    ensures calls { TakesCalls (pieces_of (length bytes.now)) widest_piece (T.counts site.old)
+        (T.counts site.new) }
+    ensures runs { CallsAt T.counts T.servers server site.old site.new (IsErr result) }
 {
     let mut at = bytes.len().min(PIECE);
     site.append(server, name, &bytes[..at])?;
@@ -40,12 +42,14 @@ pub fn append_firm<T: Site>(
     bytes: &[u8],
 ) -> Result<(), Failed>
     requires { server < T.servers site.old }
-    ensures effect { IsTrue T.tells → AppendsFirm (server, name.now) bytes.now (T.disk site.old) (T.disk site.new) }
-    ensures done { OnOk result (IsTrue T.tells → (T.disk site.new).files (server, name.now) ≡ Some (firm_file (bytes_of ((T.disk site.old).files (server, name.now)) ++ bytes.now))) }
-    ensures calls { TakesCalls (pieces_of (length bytes.now) + 1) widest_piece (T.counts site.old) (T.counts site.new) }
-    ensures cause { HasCause server (T.counts site.old) (T.counts site.new) (IsErr result) }
-    ensures servers { T.servers site.new ≡ T.servers site.old }
-    ensures says { (T.counts site.new).say_faults ≡ (T.counts site.old).say_faults }
+    ensures effect { IsTrue T.tells
+        → AppendsFirm (server, name.now) bytes.now (T.disk site.old) (T.disk site.new) }
+    ensures done { OnOk result (IsTrue T.tells
+        → (T.disk site.new).files (server, name.now)
+        ≡ Some (firm_file (bytes_of ((T.disk site.old).files (server, name.now)) ++ bytes.now))) }
+    ensures calls { TakesCalls (pieces_of (length bytes.now) + 1) widest_piece (T.counts site.old)
+        (T.counts site.new) }
+    ensures runs { CallsAt T.counts T.servers server site.old site.new (IsErr result) }
 {
     append_all(site, server, name, bytes)?;
     site.sync(server, name)?;

@@ -1,9 +1,9 @@
 ghost use Rattle.std.specs.Prelude.{◌≡◌, ◌<◌, ◌≤◌, ◌+◌, ◌^◌, ◌⊎◌, IsTrue, IfOk, IfErr, IsErrOf, length, take, drop};
 ghost use Rattle.site_model.specs.Disk.{standing, bytes_of, length_of};
-ghost use Rattle.site_model.specs.Counts.{HasCause, TakesCalls};
+ghost use Rattle.site_model.specs.Counts.{CallsAt, TakesCalls, widest_piece};
 ghost use Rattle.file_names.specs.Names.{IsKind};
 ghost use Rattle.whole_file.specs.Held.{held, final_place};
-ghost use Rattle.whole_file.specs.Pieces.{read_pieces, widest_piece};
+ghost use Rattle.whole_file.specs.Pieces.{read_pieces};
 
 use crate::{FileFault, PIECE};
 use file_names::{FileName, Kind, spell};
@@ -23,13 +23,15 @@ pub fn read_range<T: Site>(
     requires server { server < T.servers site.old }
     requires fits { at + count < 2 ^ 64 }
     requires within { IsTrue T.tells → at + count ≤ length_of ((T.disk site.old).files (server, name.now)) }
-    ensures bytes { IfOk result (λ bytes. (length bytes.items ≡ count) × (IsTrue T.tells → bytes.items ≡ take count (drop at (bytes_of ((T.disk site.old).files (server, name.now)))))) }
+    ensures bytes { IfOk result (λ bytes. (length bytes.items ≡ count)
+        × (IsTrue T.tells → bytes.items
+        ≡ take count (drop at (bytes_of ((T.disk site.old).files (server, name.now)))))) }
     ensures same { IsTrue T.tells → T.disk site.new ≡ T.disk site.old }
     ensures calls { TakesCalls (read_pieces count) widest_piece (T.counts site.old) (T.counts site.new) }
-    ensures cause { HasCause server (T.counts site.old) (T.counts site.new) (IsErrOf result (FileFault.Fault (record { server = server }))) }
-    ensures blame { IfErr result (λ fault. (fault ≡ FileFault.Memory) ⊎ (fault ≡ FileFault.Fault (record { server = server }))) }
-    ensures servers { T.servers site.new ≡ T.servers site.old }
-    ensures says { (T.counts site.new).say_faults ≡ (T.counts site.old).say_faults }
+    ensures runs { CallsAt T.counts T.servers server site.old site.new
+        (IsErrOf result (FileFault.Fault (record { server = server }))) }
+    ensures blame { IfErr result (λ fault. (fault ≡ FileFault.Memory)
+        ⊎ (fault ≡ FileFault.Fault (record { server = server }))) }
 {
     let mut bytes = zeros(alloc, count)?;
     let mut done = 0;
@@ -53,12 +55,16 @@ pub fn read_whole<T: Site>(
 ) -> Result<Option<Vec<u8>>, FileFault>
     requires server { server < T.servers site.old }
     requires kind { IsKind kind }
-    ensures bytes { IfOk result (λ found. IsTrue T.tells → held found ≡ standing ((T.disk site.old).files (final_place server volume kind))) }
+    ensures bytes { IfOk result (λ found. IsTrue T.tells
+        → held found ≡ standing ((T.disk site.old).files (final_place server volume kind))) }
     ensures same { IsTrue T.tells → T.disk site.new ≡ T.disk site.old }
-    ensures cause { HasCause server (T.counts site.old) (T.counts site.new) (IsErrOf result (FileFault.Fault (record { server = server }))) }
-    ensures blame { IfErr result (λ fault. (fault ≡ FileFault.Memory) ⊎ (fault ≡ FileFault.Fault (record { server = server }))) }
-    ensures servers { T.servers site.new ≡ T.servers site.old }
-    ensures says { (T.counts site.new).say_faults ≡ (T.counts site.old).say_faults }
+    ensures calls { IsTrue T.tells
+        → TakesCalls (1 + read_pieces (length_of ((T.disk site.old).files (final_place server volume kind))))
+        widest_piece (T.counts site.old) (T.counts site.new) }
+    ensures runs { CallsAt T.counts T.servers server site.old site.new
+        (IsErrOf result (FileFault.Fault (record { server = server }))) }
+    ensures blame { IfErr result (λ fault. (fault ≡ FileFault.Memory)
+        ⊎ (fault ≡ FileFault.Fault (record { server = server }))) }
 {
     let name = spell(
         alloc,

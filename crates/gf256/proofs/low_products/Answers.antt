@@ -1,7 +1,7 @@
 use Rattle.std.proofs.Common.{◌*◌, ◌/◌, ◌%◌, sym, ◌∙◌}
 use Rattle.std.specs.Int.Bits.{xor_comm}
 use Rattle.gf256.specs.Field.{field_mul}
-use Rattle.gf256.specs.Nibbles.{mul-nibbles_left}
+use Rattle.gf256.specs.Laws.Nibbles.{mul-nibbles_left}
 use Rattle.gf256.specs.Tables.{sum-tabulates}
 use Rattle.gf256.proofs.low_products.Goals as goal
 

@@ -1,7 +1,7 @@
 use Rattle.std.proofs.Common.{◌≡◌, ◌<◌, ◌*◌, ◌/◌, ◌%◌, ℕ, List, ◌∙◌, ap, arith}
 use Rattle.std.specs.Prelude.{slice_index, bit_xor}
 use Rattle.gf256.specs.Field.{field_mul}
-use Rattle.gf256.specs.Nibbles.{nibbles-mul}
+use Rattle.gf256.specs.Laws.Nibbles.{nibbles-mul}
 use Rattle.gf256.specs.Tables.{Tabulates}
 use Rattle.gf256.proofs.mul.Goals as goal
 

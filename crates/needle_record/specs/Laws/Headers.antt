@@ -3,7 +3,7 @@ use Rattle.std.proofs.Common.{◌≡◌, ℕ, ◌+◌, ◌≤◌, List, ◌++◌
 use Rattle.std.specs.Option.{option_map_or}
 use Rattle.std.proofs.lemmas.List.{take-append-drop, take-take, length-take, length-take-le, length-drop, drop-append-le}
 use Rattle.wire_num.specs.Numbers.{number_of, record_length}
-use Rattle.wire_num.specs.NumberLaws.{number_of-append}
+use Rattle.wire_num.specs.Laws.Number.{number_of-append}
 use Rattle.world_model.specs.Sizes.{size_of}
 use Rattle.needle_record.specs.declared.Record.{Record}
 use Rattle.needle_record.specs.Reading.{needle_at, needle_of, size_at, length_at, content_in, IsWhole, HasHeader}

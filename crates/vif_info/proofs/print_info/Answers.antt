@@ -1,7 +1,7 @@
 use Rattle.std.proofs.Common.{ap, ◌∙◌}
 use Rattle.serde_json.specs.Written.{compact_text, has_float}
 use Rattle.stripe_layout.specs.Information.{info_of}
-use Rattle.vif_info.specs.TextLaws.{no_float, text_is, text_reads_back}
+use Rattle.vif_info.specs.Laws.Text.{no_float, text_is, text_reads_back}
 use Rattle.vif_info.proofs.print_info.Goals as goal
 
 pub returns-clause-text : goal.returns-clause-text

@@ -1,8 +1,8 @@
 use Rattle.std.proofs.Common.{◌≡◌, vec_len, vec_capacity, Ok, sym, ◌∙◌}
 use Rattle.std.proofs.lemmas.Result.{err_from_is_err_and}
 use Rattle.volume_fix.specs.Walk.{entry_or_past}
-use Rattle.volume_fix.specs.WalkLaws.{walk-short, walk-past}
-use Rattle.volume_fix.specs.ChunkLaws.{leaves_no_header}
+use Rattle.volume_fix.specs.Laws.Walk.{walk-short, walk-past}
+use Rattle.volume_fix.specs.Laws.Chunk.{leaves_no_header}
 use Rattle.volume_fix.proofs.Walking.{walking-on, walking-entries, walking-next}
 use Rattle.volume_fix.proofs.headers.Goals as goal
 

@@ -2,9 +2,9 @@ use Rattle.std.proofs.Common.{◌≡◌, ℕ, ◌<◌, ◌^◌, List, length, ap
 use Rattle.std.specs.Int.{w32, cast_signed, cast_unsigned}
 use Rattle.std.proofs.lemmas.Int.{of_z-to_z}
 use Rattle.std.proofs.lemmas.List.{take_all}
-use Rattle.wire_num.specs.NumberLaws.{AreBytes, bytes_are}
+use Rattle.wire_num.specs.Laws.Number.{AreBytes, bytes_are}
 use Rattle.volume_forms.specs.Forms.{entry_at, entry_bytes}
-use Rattle.volume_forms.specs.EntryLaws.{entry_at-spelled}
+use Rattle.volume_forms.specs.Laws.Entry.{entry_at-spelled}
 use Rattle.volume_forms.proofs.read_entry.Goals as goal
 
 whole_entry : (bytes : List ℕ) → AreBytes bytes → length bytes ≡ 16 → bytes ≡ entry_bytes (entry_at bytes)

@@ -1,11 +1,11 @@
 use Rattle.std.proofs.Common.{◌≡◌, ℕ, List, take, true, false, Ok, arith, ap, sym, ◌∙◌}
-use Rattle.wire_num.specs.NumberLaws.{bytes_are}
+use Rattle.wire_num.specs.Laws.Number.{bytes_are}
 use Rattle.volume_forms.specs.declared.SuperBlock.{SuperBlock}
 use Rattle.volume_forms.specs.declared.SuperFault.{SuperFault}
 use Rattle.volume_forms.specs.declared.SuperFault.TheVariants.{Short, Extra}
 use Rattle.volume_forms.specs.Faults.{HasFault}
 use Rattle.volume_forms.specs.Forms.{SpellsSuper}
-use Rattle.volume_forms.specs.SuperLaws.{fault-refused, has_super-by, spelled-is, super_at-spelled}
+use Rattle.volume_forms.specs.Laws.Super.{fault-refused, has_super-by, spelled-is, super_at-spelled}
 use Rattle.volume_forms.proofs.read_super.Goals as goal
 
 -- bytes that have a fault spell no block

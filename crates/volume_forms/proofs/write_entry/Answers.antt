@@ -4,7 +4,7 @@ use Rattle.std.proofs.lemmas.Int.{to_z-of_z}
 use Rattle.std.proofs.lemmas.List.{append-nil}
 use Rattle.wire_num.specs.Numbers.{bytes_of}
 use Rattle.volume_forms.specs.Forms.{entry_at, entry_bytes}
-use Rattle.volume_forms.specs.EntryLaws.{entry_at-entry_bytes}
+use Rattle.volume_forms.specs.Laws.Entry.{entry_at-entry_bytes}
 use Rattle.volume_forms.proofs.write_entry.Goals as goal
 
 bits_kept : (z : ℤ) → FitsSigned w32 z → cast_unsigned w32 (cast_signed w32 (cast_unsigned w32 z)) ≡ cast_unsigned w32 z

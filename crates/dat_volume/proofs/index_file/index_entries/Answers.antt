@@ -1,6 +1,6 @@
 use Rattle.std.proofs.Common.{refl, ◌∙◌, ◌%◌, ◌≤◌, ℕ, length, take, drop, ap, arith}
 use Rattle.site_model.specs.Disk.{Disk, bytes_of}
-use Rattle.site_model.specs.CountLaws.{cause_on}
+use Rattle.site_model.specs.Laws.Count.{calls_none, calls_failed, calls_on}
 use Rattle.dat_volume.proofs.Indexed.{index_none, index_more}
 use Rattle.dat_volume.proofs.Scanned.{whole_piece}
 use Rattle.dat_volume.proofs.index_file.index_entries.Goals as goal
@@ -10,9 +10,7 @@ loop-at-init g c = record {
   within = omega arith;
   whole = omega arith;
   room = refl;
-  servers = refl;
-  says = refl;
-  cause = record { later = omega arith; others = λ s other. refl; failed = λ fails. absurd cc };
+  runs = calls_failed (λ fails. absurd cc) (calls_none c.args.site.now);
   same = λ told. refl;
   indexed = λ told. c.new-index.ensures ∙ index_none (bytes_of ((g.T.Site.disk c.args.site.now).files (c.args.server, c.args.name.now)));
 }
@@ -25,9 +23,7 @@ loop-at-preserved g c =
       within = piece.1;
       whole = piece.2;
       room = c.read_piece.ensures.room ∙ c.loop-at.invariant.room;
-      servers = c.read_piece.ensures.servers ∙ c.loop-at.invariant.servers;
-      says = c.read_piece.ensures.says ∙ c.loop-at.invariant.says;
-      cause = cause_on c.loop-at.invariant.cause c.in_ok-count.ensures.cause;
+      runs = calls_on c.loop-at.invariant.runs c.in_ok-count.ensures.runs;
       same = λ told. c.read_piece.ensures.same told ∙ c.loop-at.invariant.same told;
       indexed = λ told.
           let long : c.loop-at.at ≤ length (bytes_of ((g.T.Site.disk c.args.site.now).files (c.args.server, c.args.name.now))) = omega (arith, c.requires.within told, c.loop-at.invariant.within) in

@@ -1,6 +1,6 @@
 use Rattle.std.proofs.Common.{refl, ◌∙◌, ◌%◌, ◌≤◌, ℕ, length, take, drop, ap, arith}
 use Rattle.site_model.specs.Disk.{Disk, bytes_of}
-use Rattle.site_model.specs.CountLaws.{cause_on}
+use Rattle.site_model.specs.Laws.Count.{calls_none, calls_failed, calls_on}
 use Rattle.dat_volume.specs.declared.chain.Chain.{Chain}
 use Rattle.dat_volume.proofs.Scanned.{scan_none, scan_more, scan_count, whole_piece}
 use Rattle.dat_volume.proofs.index_file.scan.Goals as goal
@@ -11,9 +11,7 @@ loop-at-init g c = record {
   whole = omega arith;
   count = omega (arith, ap (λ (ch : Chain). ch.count) c.new-chain.ensures);
   room = refl;
-  servers = refl;
-  says = refl;
-  cause = record { later = omega arith; others = λ s other. refl; failed = λ fails. absurd cc };
+  runs = calls_failed (λ fails. absurd cc) (calls_none c.args.site.now);
   same = λ told. refl;
   scanned = λ told. c.new-chain.ensures ∙ scan_none (bytes_of ((g.T.Site.disk c.args.site.now).files (c.args.server, c.args.name.now)));
 }
@@ -27,9 +25,7 @@ loop-at-preserved g c =
       whole = piece.2;
       count = omega (arith, scan_count c.loop-at.chain c.scan_piece-chain.result c.read_piece.new.buffer c.in_ok-count.count c.scan_piece-chain.ensures (omega (arith, piece.3, c.read_piece.ensures.room)) piece.0, c.loop-at.invariant.count);
       room = c.read_piece.ensures.room ∙ c.loop-at.invariant.room;
-      servers = c.read_piece.ensures.servers ∙ c.loop-at.invariant.servers;
-      says = c.read_piece.ensures.says ∙ c.loop-at.invariant.says;
-      cause = cause_on c.loop-at.invariant.cause c.in_ok-count.ensures.cause;
+      runs = calls_on c.loop-at.invariant.runs c.in_ok-count.ensures.runs;
       same = λ told. c.read_piece.ensures.same told ∙ c.loop-at.invariant.same told;
       scanned = λ told.
           let long : c.loop-at.at ≤ length (bytes_of ((g.T.Site.disk c.args.site.now).files (c.args.server, c.args.name.now))) = omega (arith, c.requires.within told, c.loop-at.invariant.within) in

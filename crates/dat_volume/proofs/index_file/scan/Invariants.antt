@@ -1,6 +1,6 @@
 use Rattle.std.proofs.Common.{◌≡◌, ◌*◌, ◌-◌, ◌%◌, ◌≤◌, false, true, IsTrue, length, take}
 use Rattle.site_model.specs.Disk.{bytes_of}
-use Rattle.site_model.specs.Counts.{HasCause}
+use Rattle.site_model.specs.Counts.{CallsAt}
 use Rattle.volume_forms.specs.Forms.{entries}
 use Rattle.dat_volume.specs.Scanning.{no_chain, with_entries}
 use Rattle.dat_volume.proofs.index_file.scan.Given as goal
@@ -11,9 +11,7 @@ invariant-loop-at g l = record {
   whole : l.at % 16 ≡ 0;
   count : 16 * l.chain.count ≡ l.at;
   room : length l.buffer ≡ length l.fn.buffer;
-  servers : g.T.Site.servers l.site ≡ g.T.Site.servers l.fn.site;
-  says : (g.T.Site.counts l.site).say_faults ≡ (g.T.Site.counts l.fn.site).say_faults;
-  cause : HasCause l.server (g.T.Site.counts l.fn.site) (g.T.Site.counts l.site) (false ≡ true);
+  runs : CallsAt g.T.Site.counts g.T.Site.servers l.server l.fn.site l.site (false ≡ true);
   same : IsTrue g.T.Site.tells → g.T.Site.disk l.site ≡ g.T.Site.disk l.fn.site;
   scanned : IsTrue g.T.Site.tells → l.chain ≡ with_entries no_chain (entries (take l.at (bytes_of ((g.T.Site.disk l.fn.site).files (l.server, l.name)))));
 }

@@ -3,7 +3,7 @@ use Rattle.std.specs.Option.{option_map_or}
 use Rattle.std.proofs.lemmas.Bool.{MatchBool-at_true, MatchBool-at_false}
 use Rattle.site_model.specs.Disk.{Disk, bytes_of}
 use Rattle.dat_volume.specs.Opening.{has_record, last_counts}
-use Rattle.dat_volume.specs.OpeningLaws.{PassesEntries}
+use Rattle.dat_volume.specs.Laws.Opening.{PassesEntries}
 use Rattle.dat_volume.specs.Scanning.{FailsEntries}
 use Rattle.dat_volume.proofs.Accepting.{accept_all, accept_fewer, accept_none}
 use Rattle.dat_volume.proofs.opening.accept.Goals as goal

@@ -2,7 +2,7 @@ use Rattle.std.proofs.Common.{◌∙◌, sym, inr, refl, ap, IsTrue}
 use Rattle.std.proofs.lemmas.Result.{err_from_is_err_and}
 use Rattle.site_model.specs.Disk.{Disk, bytes_of}
 use Rattle.volume_forms.specs.Forms.{has_super}
-use Rattle.dat_volume.specs.OpeningLaws.{tested-ok, tested-bare}
+use Rattle.dat_volume.specs.Laws.Opening.{tested-ok, tested-bare}
 use Rattle.dat_volume.proofs.Counted.{rule_told}
 use Rattle.dat_volume.proofs.opening.examine.Goals as goal
 

@@ -1,5 +1,5 @@
 use Rattle.std.proofs.Common.{length, ap, arith}
-use Rattle.wire_num.specs.NumberLaws.{length-bytes_of}
+use Rattle.wire_num.specs.Laws.Number.{length-bytes_of}
 use Rattle.ecj_journal.proofs.Halves.{first_half, second_half}
 use Rattle.ecj_journal.proofs.appending.append_halves.Goals as goal
 

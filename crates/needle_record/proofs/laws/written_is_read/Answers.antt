@@ -1,5 +1,5 @@
 use Rattle.needle_record.specs.Spelling.{canonical}
-use Rattle.needle_record.specs.SpellingLaws.{canonical-spells, spelled-reads_append}
+use Rattle.needle_record.specs.Laws.Spelling.{canonical-spells, spelled-reads_append}
 use Rattle.needle_record.proofs.laws.written_is_read.Goals as goal
 
 pub returns : goal.returns

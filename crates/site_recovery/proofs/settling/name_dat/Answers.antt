@@ -1,9 +1,6 @@
-use Rattle.std.proofs.Common.{subst, ◌∙◌}
-use Rattle.site_model.specs.Disk.{Disk}
-use Rattle.file_names.specs.declared.Kind.TheVariants.{Dat, Cpd}
-use Rattle.site_recovery.specs.Renaming.{RenamesKind, IsRenamedKind}
+use Rattle.std.proofs.Common.{◌∙◌}
 use Rattle.site_recovery.proofs.Taking.{on_ok, settles_look}
-use Rattle.site_recovery.proofs.Renaming.{names_dat, dat_named_now}
+use Rattle.site_recovery.proofs.Renaming.{names_dat, has_named_dat}
 use Rattle.site_recovery.proofs.settling.name_dat.Goals as goal
 
 pub returns-in_err-stands_at-clause-effect : goal.returns-in_err-stands_at-clause-effect
@@ -14,15 +11,12 @@ returns-then-not-branch-clause-effect g c = λ told. settles_look (c.stands_at.e
 
 pub returns-clause-effect : goal.returns-clause-effect
 returns-clause-effect g c = λ told.
-    names_dat c.args.volume c.args.home c.ranges.volume.fits (g.T.Site.disk c.args.site.now) (g.T.Site.disk c.rename_kind.new.site) (c.requires.at told) (c.requires.made told)
-    (c.in_ok-stands_at.ensures.stands told ∙ c.if-not-branch.false)
-    (subst (λ (d : Disk). RenamesKind c.args.volume c.args.home Cpd Dat d (g.T.Site.disk c.rename_kind.new.site)) (c.stands_at.ensures.same told) (c.rename_kind.ensures.effect told))
+    names_dat c.args.volume c.args.home c.ranges.volume.fits (g.T.Site.disk c.args.site.now) (g.T.Site.disk c.stands_at.new.site) (g.T.Site.disk c.rename_kind.new.site)
+    (c.stands_at.ensures.same told) (c.requires.at told) (c.requires.made told) (c.in_ok-stands_at.ensures.stands told ∙ c.if-not-branch.false) (c.rename_kind.ensures.effect told)
 
 pub returns-clause-done : goal.returns-clause-done
 returns-clause-done g c =
     on_ok c.rename_kind.result (λ done. λ told.
-    dat_named_now c.args.volume c.args.home c.ranges.volume.fits (g.T.Site.disk c.args.site.now) (g.T.Site.disk c.rename_kind.new.site) (c.requires.at told) (c.requires.made told)
-    (c.in_ok-stands_at.ensures.stands told ∙ c.if-not-branch.false)
-    (subst (λ (d : Disk). RenamesKind c.args.volume c.args.home Cpd Dat d (g.T.Site.disk c.rename_kind.new.site)) (c.stands_at.ensures.same told) (c.rename_kind.ensures.effect told))
-    (subst (λ (d : Disk). IsRenamedKind c.args.volume c.args.home Cpd Dat d (g.T.Site.disk c.rename_kind.new.site)) (c.stands_at.ensures.same told) (done told)))
+    has_named_dat c.args.volume c.args.home c.ranges.volume.fits (g.T.Site.disk c.args.site.now) (g.T.Site.disk c.stands_at.new.site) (g.T.Site.disk c.rename_kind.new.site)
+    (c.stands_at.ensures.same told) (c.requires.at told) (c.requires.made told) (c.in_ok-stands_at.ensures.stands told ∙ c.if-not-branch.false) (c.rename_kind.ensures.effect told) (done told))
     c.rename_kind.ensures.done

@@ -1,7 +1,7 @@
 use Rattle.std.proofs.Common.{ℕ, None, ap, ◌∙◌}
 use Rattle.std.specs.Prelude.{slice_index_or}
 use Rattle.image_meaning.specs.Files.{contents, files_of}
-use Rattle.site_recovery.specs.RunLaws.{goes_on}
+use Rattle.site_model.specs.Laws.Count.{calls_on_anywhere, calls_untold}
 use Rattle.site_recovery.proofs.Thinned.{takes_dat, takes_cpd, takes_shard, dat_gone, shard_gone}
 use Rattle.site_recovery.proofs.thinning.clear_copies.Goals as goal
 
@@ -17,7 +17,7 @@ pub loop-shard-init : goal.loop-shard-init
 loop-shard-init g c =
     let files = files_of (contents (g.T.Site.disk c.args.site.now).files) c.args.volume in
     record {
-      runs = goes_on c.clear_kind.ensures.runs c.clear_kind-2.ensures.runs;
+      runs = calls_untold (calls_on_anywhere c.clear_kind.ensures.runs c.clear_kind-2.ensures.runs);
       takes = λ told. takes_cpd c.args.volume files (takes_dat c.args.volume files (c.clear_kind.ensures.effect told)) (c.clear_kind-2.ensures.effect told);
       gone = λ told. dat_gone c.args.volume files _ _ (c.clear_kind-2.ensures.effect told).files (c.in_ok-clear_kind.ensures.done told) (c.in_ok-clear_kind-2.ensures.done told);
     }
@@ -30,7 +30,7 @@ returns-in_err-clear_kind-3-clause-effect g c = λ told.
 
 pub loop-shard-preserved : goal.loop-shard-preserved
 loop-shard-preserved g c = record {
-  runs = goes_on c.loop-shard.invariant.runs c.clear_kind-in-loop-shard.ensures.runs;
+  runs = calls_untold (calls_on_anywhere c.loop-shard.invariant.runs c.clear_kind-in-loop-shard.ensures.runs);
   takes = λ told.
       takes_shard c.args.volume (files_of (contents (g.T.Site.disk c.args.site.now).files) c.args.volume) c.loop-shard.shard _
       (ap (λ (n : ℕ). slice_index_or c.args.homes.now n None) c.from.ensures ∙ c.requires told c.loop-shard.shard c.loop-shard-test.true)

@@ -1,7 +1,7 @@
 use Rattle.std.proofs.Common.{ℕ, List, take, drop, ◌+◌, ◌∙◌, ap, arith}
 use Rattle.std.proofs.lemmas.Grind.{common_steps}
 use Rattle.site_model.specs.Disk.{bytes_of}
-use Rattle.site_model.specs.CountLaws.{cause_read, cause_on}
+use Rattle.site_model.specs.Laws.Count.{calls_read, calls_on}
 use Rattle.whole_file.proofs.Counting.{next_read}
 use Rattle.whole_file.proofs.Joining.{piece_joins}
 use Rattle.whole_file.proofs.reading.read_range.Goals as goal
@@ -10,10 +10,8 @@ pub loop-done-preserved : goal.loop-done-preserved
 loop-done-preserved g c = record {
   within = omega arith;
   size = grind (arith, common_steps);
-  servers = c.read.ensures.servers ∙ c.loop-done.invariant.servers;
-  says = c.read.ensures.counts.says ∙ c.loop-done.invariant.says;
   calls = next_read _ c.loop-done.done _ _ (omega arith) (grind (arith, common_steps)) (grind (arith, common_steps)) c.loop-done.invariant.calls c.in-Ok.ensures.counts;
-  cause = cause_on c.loop-done.invariant.cause (cause_read c.in-Ok.ensures.counts);
+  runs = calls_on c.loop-done.invariant.runs (calls_read (grind (arith, common_steps)) c.in-Ok.ensures.counts c.read.ensures.servers);
   same = λ told. c.read.ensures.same told ∙ c.loop-done.invariant.same told;
   read = λ told. piece_joins _ c.loop-done.done c.min.result c.args.at c.deref_mut.result.now c.read.new.out _ _ _
       (grind (arith, common_steps))

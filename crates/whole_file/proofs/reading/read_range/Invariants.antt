@@ -1,6 +1,6 @@
 use Rattle.std.proofs.Common.{length, ◌-◌, ◌≡◌, ◌≤◌, false, true, IsTrue, take, drop}
 use Rattle.site_model.specs.Disk.{bytes_of}
-use Rattle.site_model.specs.Counts.{HasCause}
+use Rattle.site_model.specs.Counts.{CallsAt}
 use Rattle.whole_file.proofs.Counting.{HasRead}
 use Rattle.whole_file.proofs.reading.read_range.Given as goal
 
@@ -8,10 +8,8 @@ abbrev pub invariant-loop-done : goal.invariant-loop-done
 invariant-loop-done g l = record {
   within : l.done ≤ l.count;
   size : length l.bytes.items ≡ l.count;
-  servers : g.T.Site.servers l.site ≡ g.T.Site.servers l.fn.site;
-  says : (g.T.Site.counts l.site).say_faults ≡ (g.T.Site.counts l.fn.site).say_faults;
   calls : HasRead l.done l.count (g.T.Site.counts l.fn.site) (g.T.Site.counts l.site);
-  cause : HasCause l.server (g.T.Site.counts l.fn.site) (g.T.Site.counts l.site) (false ≡ true);
+  runs : CallsAt g.T.Site.counts g.T.Site.servers l.server l.fn.site l.site (false ≡ true);
   same : IsTrue g.T.Site.tells → g.T.Site.disk l.site ≡ g.T.Site.disk l.fn.site;
   read : IsTrue g.T.Site.tells → take l.done l.bytes.items ≡ take l.done (drop l.at (bytes_of ((g.T.Site.disk l.fn.site).files (l.server, l.name))));
 }

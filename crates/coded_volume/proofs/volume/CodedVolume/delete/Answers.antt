@@ -1,5 +1,5 @@
 use Rattle.std.proofs.Common.{◌∙◌, subst}
-use Rattle.wire_num.specs.PairLaws.{AreIds}
+use Rattle.wire_num.specs.Laws.Pair.{AreIds}
 use Rattle.coded_volume.proofs.Deleted.{deletes, deletes_done, deletes_none}
 use Rattle.coded_volume.proofs.volume.CodedVolume.delete.Goals as goal
 

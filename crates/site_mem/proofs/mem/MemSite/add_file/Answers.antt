@@ -1,8 +1,9 @@
-use Rattle.std.proofs.Common.{arith}
+use Rattle.std.proofs.Common.{refl, arith}
 use Rattle.std.proofs.lemmas.Result.{on_ok_weaker, on_err_weaker}
 use Rattle.site_mem.specs.Held.{disk_held, call_held}
 use Rattle.site_mem.proofs.Recording.{disk_entered, disk_kept}
 use Rattle.site_mem.proofs.Calling.{steps_from, numbered_stepped, since_stepped, within_stepped}
+use Rattle.site_mem.proofs.SinceStart.{calls_stepped}
 use Rattle.site_mem.proofs.mem.MemSite.add_file.Goals as goal
 
 pub invariant_of-self : goal.invariant_of-self
@@ -15,6 +16,7 @@ invariant_of-self c =
       numbered = numbered_stepped old.tally.calls old.tally.calls _ steps (omega arith) (omega arith) old.numbered;
       since = since_stepped old.tally.calls old.tally.calls _ steps (omega arith) old.since;
       within = within_stepped old.servers _ steps c.requires.server old.within;
+      asked = calls_stepped _ steps refl old.asked;
     }
 
 pub returns-clause-ok : goal.returns-clause-ok

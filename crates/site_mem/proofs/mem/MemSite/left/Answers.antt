@@ -1,8 +1,9 @@
 use Rattle.std.proofs.Common.{◌<◌, ◌∙◌, length, get_or, sym, ap, subst, arith}
-use Rattle.site_mem.specs.Held.{disk_held, call_held}
+use Rattle.site_mem.specs.Held.{disk_held, call_held, loss_held}
 use Rattle.site_mem.specs.Kept.{are_apart}
 use Rattle.site_mem.specs.Site.{disk_at, call_at}
 use Rattle.site_mem.proofs.Leaving.{reached_from, reached_server, torn_none, torn_absent, torn_more, torn_all, spoken_first, front_at}
+use Rattle.site_mem.proofs.SinceStart.{since_start}
 use Rattle.site_mem.proofs.Tearing.{left_by}
 use Rattle.site_mem.proofs.mem.MemSite.left.Goals as goal
 
@@ -50,3 +51,7 @@ returns-clause-left c =
     (spoken_first c.deref.result.now c.args.self.now.servers c.in_ok-site.site c.tell.new.self c.in_ok-site.ensures c.in_ok-tell.ensures.ok ∙ c.deref.ensures.value)
     c.loop-file-test.false reached c.loop-file.invariant)
     (front_at _ c.in_ok-contents.contents c.in_ok-contents.ensures)
+
+pub returns-clause-since_start : goal.returns-clause-since_start
+unfolding disk_held call_held loss_held
+returns-clause-since_start c none = since_start c.args.call c.args.self.now.history (disk_at c.loop-file.site) c.requires.some c.args.self.now.asked none (returns-clause-left c)

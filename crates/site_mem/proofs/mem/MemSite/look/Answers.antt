@@ -10,6 +10,7 @@ invariant_of-self c = record {
   numbered = numbered_more c.args.self.now.tally.calls c.count_read.new.self.calls c.args.self.now.history.entries.items c.count_read.ensures.counts.calls_rise c.args.self.now.numbered;
   since = λ server. omega (arith, c.args.self.now.since server, c.count_read.ensures.counts.calls_rise);
   within = c.args.self.now.within;
+  asked = c.args.self.now.asked;
 }
 
 pub returns-clause-looked : goal.returns-clause-looked

@@ -1,7 +1,7 @@
 use Rattle.std.proofs.Common.{◌<◌, ◌∙◌, ap, arith}
 use Rattle.site_mem.specs.Held.{disk_held, call_held}
 use Rattle.site_mem.specs.Record.{nothing, disk_of}
-use Rattle.site_mem.specs.Calls.{at_call, are_numbered, are_within}
+use Rattle.site_mem.specs.Calls.{at_call, are_numbered, are_within, are_calls}
 use Rattle.site_mem.proofs.Calling.{at_loss}
 use Rattle.site_mem.proofs.Losing.{disk_less, since_less, had_lost_same}
 use Rattle.site_mem.proofs.mem.MemSite.lose.Goals as goal
@@ -16,6 +16,7 @@ invariant_of-self c =
       numbered = ap (λ l. are_numbered old.tally.calls l) c.lose.ensures.entries ∙ old.numbered;
       since = since_less positive c.lose.ensures.lost old.tally.calls (omega (arith, c.next.ensures.number)) old.since;
       within = ap (λ l. are_within old.servers l) c.lose.ensures.entries ∙ old.within;
+      asked = ap are_calls c.lose.ensures.entries ∙ old.asked;
     }
 
 pub returns-clause-files : goal.returns-clause-files

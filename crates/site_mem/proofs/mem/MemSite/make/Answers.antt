@@ -1,6 +1,7 @@
 use Rattle.std.proofs.Common.{◌≤◌, ◌∙◌, refl, sym, arith}
 use Rattle.site_mem.specs.Held.{disk_held, call_held}
 use Rattle.site_mem.proofs.Calling.{steps_from, effect_stepped, done_stepped, numbered_stepped, since_stepped, within_stepped}
+use Rattle.site_mem.proofs.SinceStart.{calls_stepped, call_asked_for}
 use Rattle.site_mem.proofs.Making.{makes, carried}
 use Rattle.site_mem.proofs.mem.MemSite.make.Goals as goal
 
@@ -15,6 +16,7 @@ invariant_of-self c =
       numbered = numbered_stepped old.tally.calls c.count.new.self.calls _ steps more (omega (arith, c.count.ensures.calls, c.next-number.ensures.number)) old.numbered;
       since = since_stepped old.tally.calls c.count.new.self.calls _ steps more old.since;
       within = within_stepped old.servers _ steps c.requires.within old.within;
+      asked = calls_stepped _ steps (call_asked_for _ _ c.requires.call) old.asked;
     }
 
 pub returns-then-failed-clause-effect : goal.returns-then-failed-clause-effect

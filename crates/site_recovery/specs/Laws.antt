@@ -1,0 +1,4 @@
+pub mod Step
+pub mod Test
+pub mod CodedStep
+pub mod CodedTest

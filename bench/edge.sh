@@ -86,6 +86,19 @@ finds() {
     [ "$number" -eq 0 ] && [ "$(grep -c '^OK 31$' "$work/said")" -eq $# ]
 }
 
+# start_first: a first run goes on by itself, its lines from descriptor 9, once it has answered a put of needle 2
+start_first() {
+    mkfifo lines
+    "$program" <lines >"$work/first" 2>&1 &
+    first=$!
+    exec 9>lines
+    printf 'put 7 2 0000002a 31\n' >&9
+    for _ in $(seq 100); do
+        grep -q '^OK$' "$work/first" && break
+        sleep 0.05
+    done
+}
+
 # ---- standard input, output and error
 
 locks() { yes lock | head -n 9; }
@@ -180,15 +193,7 @@ wants 'the needle is there' finds 1
 
 enter two-runs
 store
-mkfifo lines
-"$program" <lines >"$work/first" 2>&1 &
-first=$!
-exec 9>lines
-printf 'put 7 2 0000002a 31\n' >&9
-for _ in $(seq 100); do
-    grep -q '^OK$' "$work/first" && break
-    sleep 0.05
-done
+start_first
 before=$(keeps)
 run <<<'volume.list'
 wants 'the second ends as no site and says why' ended 8 'weed: no site' '*another run*'
@@ -204,15 +209,7 @@ wants 'and what it answered is there' finds 1 2 3
 
 enter killed-run
 store
-mkfifo lines
-"$program" <lines >"$work/first" 2>&1 &
-first=$!
-exec 9>lines
-printf 'put 7 2 0000002a 31\n' >&9
-for _ in $(seq 100); do
-    grep -q '^OK$' "$work/first" && break
-    sleep 0.05
-done
+start_first
 kill -STOP "$first"
 run <<<'volume.list'
 wants 'a run that is halted keeps the folder' ended 8 'weed: no site' '*another run*'

@@ -2,17 +2,18 @@
 use Rattle.std.proofs.Common.{◌≡◌, inl, inr, ⊎_elim, ℕ, suc, ◌+◌, ◌*◌, ◌^◌, ◌<◌, ◌≤◌, Bool, false, List, [], ◌∷◌, ◌++◌, length, map, get_or, Option, Some, None, refl, sym, ◌∙◌, ap, subst, arith}
 use Rattle.std.specs.Prelude.{unwrap_or, nat_eq, Contains}
 use Rattle.std.specs.List.{AllByRecursion}
+use Rattle.world_model.specs.Sizes.{deletion_length, max_dat}
 use Rattle.site_model.specs.Disk.{File, Place, Files, Image, LeftOf, IsFirm, bytes_of, Disk}
 use Rattle.site_model.specs.Disk as disk
 use Rattle.site_model.specs.Leaves.{weaker, both}
 use Rattle.site_model.specs.Touches.{touches_more, firm_left}
 use Rattle.file_names.specs.declared.Kind.TheVariants.{Shard, Ecj}
-use Rattle.file_names.specs.Names.{name_bytes}
+use Rattle.file_names.specs.Names.{name_bytes, place_of}
 use Rattle.wire_num.specs.Pairs.{pairs, journal_bytes}
 use Rattle.wire_num.specs.Laws.Pair.{AreIds, HasOrGains, pairs_of_journal, length-journal_bytes}
 use Rattle.volume_forms.specs.Forms.{entries}
 use Rattle.stripe_layout.specs.declared.Info.{Info}
-use Rattle.image_meaning.specs.Files.{VolumeFiles, contents, place_of, files_of, lose_files, bytes_at}
+use Rattle.image_meaning.specs.Files.{VolumeFiles, contents, files_of, lose_files, bytes_at}
 use Rattle.image_meaning.specs.Coded.{volume_info, dat_of, deleted_at, coded_with}
 use Rattle.image_meaning.specs.Meaning.{max_volumes}
 use Rattle.image_meaning.specs.Sound.{IsHolder, IsCoded}
@@ -54,7 +55,7 @@ module _ (v servers : ℕ) (row : Row) (ids : List ℕ) (id : ℕ) (old : Files)
       record {
         fresh = subst (AllByRecursion (λ other. nat_eq other id ≡ false)) (sym ids_are) start.may.fresh;
         known = subst (λ (o : Option (List ℕ)). Contains (map (λ e. e.id) (entries (unwrap_or o []))) id) (whole.made.indexes home.0 home.1) (start.may.known home.0 home.1);
-        room = subst (λ (l : List ℕ). whole.parts.info.dat_size + 32 * (length l + 1) ≤ 2 ^ 35) (sym ids_are) (start.may.room whole.parts.info (made_info whole.parts files whole.made whole.form.enough));
+        room = subst (λ (l : List ℕ). whole.parts.info.dat_size + deletion_length * (length l + 1) ≤ max_dat) (sym ids_are) (start.may.room whole.parts.info (made_info whole.parts files whole.made whole.form.enough));
       }
 
   info_is : (info : Info) → volume_info files ≡ Some info → whole.parts.info ≡ info

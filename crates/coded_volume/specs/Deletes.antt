@@ -1,15 +1,17 @@
 -- What a deletion does to a coded volume.
-use Rattle.std.specs.Prelude.{◌≡◌, ◌⊎◌, ℕ, ◌+◌, ◌*◌, ◌^◌, ◌<◌, ◌≤◌, Bool, false, nat_eq, List, [], ◌∷◌, ◌++◌, length, map, Some, Contains}
+use Rattle.std.specs.Prelude.{◌≡◌, ◌⊎◌, ℕ, ◌+◌, ◌*◌, ◌^◌, ◌<◌, ◌≤◌, Bool, false, nat_eq, List, [], ◌∷◌, ◌++◌, length, map, Some, Contains, Result, IfErr, IsErrOf}
 use Rattle.std.specs.List.{AllByRecursion}
+use Rattle.world_model.specs.Sizes.{deletion_length, max_dat}
 use Rattle.site_model.specs.Disk.{Place, Files, IsFirm, bytes_of, Disk}
-use Rattle.site_model.specs.Counts.{Counts}
+use Rattle.site_model.specs.Counts.{Counts, Calls}
 use Rattle.site_model.specs.Leaves.{Leaves}
 use Rattle.site_model.specs.Touches.{Touches}
 use Rattle.file_names.specs.declared.Kind.TheVariants.{Ecx, Ecj}
 use Rattle.wire_num.specs.Pairs.{journal_bytes}
 use Rattle.volume_forms.specs.Forms.{entries}
 use Rattle.stripe_layout.specs.declared.Info.{Info}
-use Rattle.image_meaning.specs.Files.{VolumeFiles, contents, place_of, files_of, lose_files, bytes_at}
+use Rattle.image_meaning.specs.Files.{VolumeFiles, contents, files_of, lose_files, bytes_at}
+use Rattle.file_names.specs.Names.{place_of}
 use Rattle.image_meaning.specs.Coded.{volume_info, dat_of, coded_with}
 use Rattle.image_meaning.specs.Meaning.{volume_of}
 use Rattle.image_meaning.specs.Sound.{IsHolder, IsCoded, IsSoundVolume}
@@ -35,7 +37,7 @@ pub record HasDeletedIds (v servers : ℕ) (row : Row) (ids : List ℕ) (files :
 pub record MayDelete (files : VolumeFiles) (ids : List ℕ) (id : ℕ) : Type 0 where
   pub fresh : AllByRecursion (λ other. nat_eq other id ≡ false) ids
   pub known : (server : ℕ) → IsHolder files server → Contains (map (λ e. e.id) (entries (bytes_at files server Ecx))) id
-  pub room : (info : Info) → volume_info files ≡ Some info → info.dat_size + 32 * (length ids + 1) ≤ 2 ^ 35
+  pub room : (info : Info) → volume_info files ≡ Some info → info.dat_size + deletion_length * (length ids + 1) ≤ max_dat
 
 -- The volume is sound, and means after each loss that it survives what it meant, with this id deleted or without.
 pub record IsWithOrWithout (files : VolumeFiles) (ids : List ℕ) (id : ℕ) (left : VolumeFiles) : Type 0 where
@@ -73,7 +75,7 @@ pub record IsDeleted (v servers : ℕ) (row : Row) (ids : List ℕ) (id : ℕ) (
 -- ---- the value in memory
 
 -- the same volume, with these ids deleted
-pub record SameVolume (old new : CodedVolume) (ids : List ℕ) : Type 0 where
+pub record KeepsVolume (old new : CodedVolume) (ids : List ℕ) : Type 0 where
   pub volume : new.volume ≡ old.volume
   pub info : new.info ≡ old.info
   pub deleted : new.deleted.items ≡ ids
@@ -82,3 +84,8 @@ pub record SameVolume (old new : CodedVolume) (ids : List ℕ) : Type 0 where
 abbrev pub TellsWrites : Counts → Counts → VolumeFault → Type 0
 TellsWrites old new (volume_fault.Fault fault) = WritesRose fault.server old new
 TellsWrites old new volume_fault.Memory = Unit {0}
+
+-- Calls at any server. A fault is told of one whose counts rose, also that of the calls that write.
+pub record WritesAnywhere {A S : Type 0} (counts : S → Counts) (count : S → ℕ) (result : Result A VolumeFault) (old new : S) : Type 0 where
+  pub runs : Calls counts count old new (λ s. IsErrOf result (volume_fault.Fault (record { server = s })))
+  pub write_cause : IfErr result (TellsWrites (counts old) (counts new))

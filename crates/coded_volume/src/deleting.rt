@@ -1,4 +1,4 @@
-// A deleted id in the journals of all holders.
+//! A deleted id in the journals of all holders.
 ghost use Rattle.std.specs.Prelude.{◌≡◌, ◌<◌, ◌∷◌, ◌++◌, ℕ, List, [], IsTrue, IfErr, IsErrOf, OnOk, Some};
 ghost use Rattle.site_model.specs.Disk.{bytes_of, firm_file};
 ghost use Rattle.site_model.specs.Counts.{Calls};

@@ -1,4 +1,4 @@
-// Deletions on a volume of 3 and 2 shards, at the first four of five servers in memory.
+//! Deletions on a volume of 3 and 2 shards, at the first four of five servers in memory.
 ghost use Rattle.std.specs.Prelude.{◌≡◌, ◌<◌, ◌≤◌};
 ghost use Rattle.site_mem.specs.Site.{counts_at};
 
@@ -18,24 +18,24 @@ const VOLUME: u32 = 7;
 
 const JOURNAL: &str = "7.ecj";
 
-/// The servers with shards are those below it.
+// The servers with shards are those below it.
 const HOLDERS: u32 = 4;
 
-/// The ids that are deleted, one after the other.
+// The ids that are deleted, one after the other.
 const IDS: [u64; 2] = [5, 0x0102_0304_0506_0708];
 
-/// The journal of both.
+// The journal of both.
 const BYTES: [u8; 32] = [
     0, 0, 0, 0, 0, 0, 0, 5, 0, 0, 0, 0, 0, 0, 0, 5, 1, 2, 3, 4, 5, 6, 7, 8, 1, 2, 3, 4, 5, 6, 7, 8,
 ];
 
-/// The calls at one holder: an append and a sync for each half.
+// The calls at one holder: an append and a sync for each half.
 const CALLS_AT_HOLDER: u64 = 4;
 
-/// The calls of a deletion.
+// The calls of a deletion.
 const CALLS: u64 = 16;
 
-/// The most bytes that a volume may use.
+// The most bytes that a volume may use.
 const MOST_USED: u64 = 1 << 35;
 
 fn info() -> Info
@@ -83,7 +83,7 @@ impl Running {
         self.volume.delete(alloc, &mut self.site, &self.table, id)
     }
 
-    /// With both ids deleted.
+    // With both ids deleted.
     fn with_both(rt: &impl Abort, alloc: Global) -> Result<Running, Fail> {
         let mut running = Running::new(alloc)?;
         running.delete(rt, alloc, IDS[0])?;
@@ -91,7 +91,7 @@ impl Running {
         Ok(running)
     }
 
-    /// Whether the journal at a server has these bytes.
+    // Whether the journal at a server has these bytes.
     fn has_bytes(&self, server: u32, bytes: Option<&[u8]>) -> bool {
         match (self.site.file(server, JOURNAL), bytes) {
             (Some(found), Some(bytes)) => found == bytes,
@@ -118,7 +118,7 @@ fn an_id_comes_to_every_holder(rt: HostRuntime) -> Result<(), Fail> {
     Ok(())
 }
 
-/// How many ids the holder may have, at least and at most, where the call is under way.
+// How many ids the holder may have, at least and at most, where the call is under way.
 fn stages(call: u64, holder: u32) -> (usize, usize)
     requires { 0 < call }
 {

@@ -1,18 +1,17 @@
-// A coded volume in memory.
+//! A coded volume in memory.
 ghost use Rattle.std.specs.Prelude.{◌≡◌, ◌+◌, ◌*◌, ◌^◌, ◌<◌, ◌≤◌, ◌∷◌, ◌++◌, [], OnErr, OnOk, length};
+ghost use Rattle.world_model.specs.Sizes.{deletion_length, max_dat};
 ghost use Rattle.wire_num.specs.Laws.Pair.{AreIds};
 ghost use Rattle.image_meaning.specs.Meaning.{max_volumes};
 
 use crate::deleting::append_everywhere;
 use dat_volume::VolumeFault;
-use file_names::{FileName, Kind, spell};
+use file_names::{Kind, final_name};
 use shard_table::ShardTable;
 use site_model::Site;
 use std::alloc::{AllocError, Global};
 use stripe_layout::Info;
-
-/// What a deletion adds to what a volume uses.
-const DELETION: u64 = 32;
+use world_model::limits::DELETION_LENGTH;
 
 /// A coded volume: what its text says, and the ids that are deleted, in the order of the journals.
 #[derive(Debug, Drop)]
@@ -20,18 +19,17 @@ pub struct CodedVolume {
     volume: u32,
     info: Info,
     deleted: Vec<u64>,
-    ghost room: { info.dat_size + 32 * length deleted.items ≤ 2 ^ 35 },
+    ghost room: { info.dat_size + deletion_length * length deleted.items ≤ max_dat },
 }
 
 impl CodedVolume {
-    ghost use Rattle.std.specs.Prelude.{◌≡◌, ◌+◌, ◌*◌, ◌^◌, ◌<◌, ◌≤◌, ◌∷◌, ◌++◌, [], ℕ, IsTrue, IfErr, IsErrOf, OnOk, OnErr, length};
-    ghost use Rattle.site_model.specs.Counts.{Calls};
+    ghost use Rattle.std.specs.Prelude.{◌≡◌, ◌+◌, ◌*◌, ◌^◌, ◌<◌, ◌≤◌, ◌∷◌, ◌++◌, [], ℕ, IsTrue, IsErrOf, MatchResult, OnOk, length};
     ghost use Rattle.shard_table.specs.Table.{row_of};
-    ghost use Rattle.coded_volume.specs.Deletes.{CanStart, Deletes, IsDeleted, SameVolume, TellsWrites};
+    ghost use Rattle.coded_volume.specs.Deletes.{CanStart, Deletes, IsDeleted, KeepsVolume, WritesAnywhere};
 
     /// A volume of which no id is deleted. It takes no memory.
     pub fn fresh(alloc: Global, volume: u32, info: Info) -> CodedVolume
-        requires { info.dat_size ≤ 2 ^ 35 }
+        requires { info.dat_size ≤ max_dat }
         ensures volume { result.volume ≡ volume }
         ensures info { result.info ≡ info }
         ensures none { result.deleted.items ≡ [] }
@@ -45,9 +43,9 @@ impl CodedVolume {
 
     /// The bytes that the volume uses: those of its data file, and 32 for each deletion.
     pub fn used(&self) -> u64
-        ensures { result ≡ self.now.info.dat_size + 32 * length self.now.deleted.items }
+        ensures { result ≡ self.now.info.dat_size + deletion_length * length self.now.deleted.items }
     {
-        self.info.dat_size + DELETION * self.deleted.len() as u64
+        self.info.dat_size + DELETION_LENGTH * self.deleted.len() as u64
     }
 
     /// What the volume's text says.
@@ -76,7 +74,8 @@ impl CodedVolume {
         id: u64,
     ) -> Result<(), VolumeFault>
         requires servers { table.now.servers ≡ T.servers site.old }
-        requires room { self.old.info.dat_size + 32 * (length self.old.deleted.items + 1) ≤ 2 ^ 35 }
+        requires room { self.old.info.dat_size + deletion_length * (length self.old.deleted.items + 1)
+            ≤ max_dat }
         ensures effect { IsTrue T.tells
             → Deletes self.old.volume (T.servers site.old) (row_of table.now self.old.volume)
             self.old.deleted.items id (T.disk site.old) (T.disk site.new) }
@@ -85,22 +84,14 @@ impl CodedVolume {
             self.old.deleted.items id (T.disk site.old).files
             → IsDeleted self.old.volume (T.servers site.old) (row_of table.now self.old.volume)
             self.old.deleted.items id (T.disk site.old).files (T.disk site.new).files) }
-        ensures deleted { OnOk result (SameVolume self.old self.new (self.old.deleted.items ++ id ∷ [])) }
-        ensures failed { OnErr result (SameVolume self.old self.new self.old.deleted.items) }
+        ensures state { MatchResult result
+            (λ _. KeepsVolume self.old self.new (self.old.deleted.items ++ id ∷ []))
+            (λ _. KeepsVolume self.old self.new self.old.deleted.items) }
         ensures memory { IsErrOf result VolumeFault.Memory → site.new ≡ site.old }
-        ensures runs { Calls T.counts T.servers site.old site.new
-            (λ s. IsErrOf result (VolumeFault.Fault (record { server = s }))) }
-        ensures write_cause { IfErr result (TellsWrites (T.counts site.old) (T.counts site.new)) }
+        ensures runs { WritesAnywhere T.counts T.servers result site.old site.new }
     {
         numbers_fit(self.volume, &self.deleted);
-        let name = spell(
-            alloc,
-            &FileName {
-                volume: self.volume,
-                kind: Kind::Ecj,
-                temp: false,
-            },
-        )?;
+        let name = final_name(alloc, self.volume, Kind::Ecj)?;
         enter(&mut self.deleted, id)?;
         match append_everywhere(site, table, self.volume, &name, id) {
             Ok(()) => Ok(()),

@@ -5,8 +5,8 @@
 //! A constant can't loop or call a function, and no chain of constants is longer than 64. So each row of
 //! eight begins anew, eight bits behind the begin of the row before it.
 
-/// The polynomial of CRC-32C without its leading term, the coefficient of the highest degree as the
-/// lowest bit.
+// The polynomial of CRC-32C without its leading term, the coefficient of the highest degree as the
+// lowest bit.
 const POLYNOMIAL: u32 = 0x82f6_3b78;
 
 // The register behind one more zero bit.

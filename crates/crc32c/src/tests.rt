@@ -1,3 +1,4 @@
+//! Tests of the public calls, by worked rows.
 use super::*;
 use register::after_each;
 

@@ -9,16 +9,16 @@ use plain::PlainCrc;
 use std::io;
 use std::time::Instant;
 
-/// The length of the text in bytes.
+// The length of the text in bytes.
 const TEXT_LENGTH: usize = 65536;
 
-/// How often the text is summed in one measurement.
+// How often the text is summed in one measurement.
 const PASSES: u64 = 8;
 
-/// How many measurements each sum has; the fastest counts.
+// How many measurements each sum has; the fastest counts.
 const ROUNDS: u64 = 500;
 
-/// A text that looks random: xorshift of 64 bits (G. Marsaglia, Xorshift RNGs, 2003).
+// A text that looks random: xorshift of 64 bits (G. Marsaglia, Xorshift RNGs, 2003).
 fn fill(text: &mut [u8]) {
     let mut state = 88_172_645_463_325_252_u64;
     for byte in text.iter_mut() {

@@ -1,10 +1,11 @@
+//! The sum that the fast one is held against.
 /// CRC-32C byte by byte over a table of its own: what the fast sum is compared with.
 #[derive(Drop)]
 pub struct PlainCrc {
     table: [u32; 256],
 }
 
-/// The polynomial without its leading term, the coefficient of the highest degree as the lowest bit.
+// The polynomial without its leading term, the coefficient of the highest degree as the lowest bit.
 const POLYNOMIAL: u32 = 0x82f6_3b78;
 
 fn entry(index: u8) -> u32 {

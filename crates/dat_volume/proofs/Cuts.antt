@@ -32,11 +32,5 @@ module _ {p q : Place} {m n : ℕ} (apart : p ≢ q) where
         )));
       }
 
-  pub both_done : {old mid new : Disk} → Shortens p m old mid → Shortens q n mid new → mid.files p ≡ cut_to m (old.files p) → new.files q ≡ cut_to n (mid.files q) → AreShortened p q m n old.files new.files
-  both_done {old} {mid} {new} first second did_first did_second = record {
-    first = second.others p apart ∙ did_first;
-    second = did_second ∙ ap (cut_to n) (first.others q (λ e. apart (sym e)));
-  }
-
 pub places_differ : (server : ℕ) (a b : List ℕ) → a ≢ b → ◌≢◌ {A = Place} (server, a) (server, b)
 places_differ server a b differ e = differ (ap (λ (p : Place). p.1) e)

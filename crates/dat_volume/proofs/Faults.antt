@@ -8,7 +8,7 @@ use Rattle.world_model.specs.declared.types.Content.{Content}
 use Rattle.needle_record.specs.declared.NeedleFault.{NeedleFault}
 use Rattle.needle_record.specs.declared.NeedleFault.TheVariants as fault
 use Rattle.needle_record.specs.Given.{Gives}
-use Rattle.needle_record.specs.Reading.{◌>>=◌, bytes_at, number_at, text_at, part_at, has_bit, content_at, content_in, content_or_fault, needle_at, needle_of, size_at, length_at, IsWhole}
+use Rattle.needle_record.specs.Reading.{◌>>=◌, bytes_at, number_at, text_at, part_at, has_bit, content_at, content_in, content_or_fault, needle_at, needle_of, size_at, length_at, HasWholeRecord}
 use Rattle.needle_record.specs.Laws.Fronts.{needle_at-whole}
 use Rattle.dat_volume.specs.Reading.{IsWholeFault}
 
@@ -116,11 +116,11 @@ needle_of_fault : (size : ℕ) (bytes : List ℕ) (why : NeedleFault) → needle
 unfolding needle_of
 needle_of_fault size bytes why h = content_in_fault size (drop 16 bytes) why (only_first (content_in size (drop 16 bytes)) _ why h)
 
-needle_fault : (bytes : List ℕ) (why : NeedleFault) → IsWhole bytes → needle_at bytes ≡ Err why → IsWholeFault why
+needle_fault : (bytes : List ℕ) (why : NeedleFault) → HasWholeRecord bytes → needle_at bytes ≡ Err why → IsWholeFault why
 needle_fault bytes why whole h = needle_of_fault (size_at bytes) (take (length_at bytes) bytes) why (sym (needle_at-whole bytes whole) ∙ h)
 
 -- the same of what a reader answers
-pub given_fault : (bytes : List ℕ) (why : NeedleFault) → IsWhole bytes → Gives (Err why) (needle_at bytes) → IsWholeFault why
+pub given_fault : (bytes : List ℕ) (why : NeedleFault) → HasWholeRecord bytes → Gives (Err why) (needle_at bytes) → IsWholeFault why
 given_fault bytes fault.Short whole h = needle_fault bytes fault.Short whole h
 given_fault bytes (fault.SizeMismatch size taken) whole h = needle_fault bytes (fault.SizeMismatch size taken) whole h
 given_fault bytes (fault.Checksum stored computed) whole h = needle_fault bytes (fault.Checksum stored computed) whole h

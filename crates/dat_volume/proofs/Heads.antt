@@ -16,7 +16,7 @@ use Rattle.needle_record.specs.declared.NeedleFault.TheVariants as fault
 use Rattle.needle_record.specs.Given.{Gives}
 use Rattle.needle_record.specs.Spelling.{length_of_record}
 use Rattle.needle_record.specs.Laws.Spelling.{found-length}
-use Rattle.needle_record.specs.Reading.{needle_at, needle_of, size_at, length_at, IsWhole}
+use Rattle.needle_record.specs.Reading.{needle_at, needle_of, size_at, length_at, HasWholeRecord}
 use Rattle.needle_record.specs.Laws.Fronts.{size_at-append, needle_at-whole}
 use Rattle.dat_volume.specs.declared.fault.GetFault.{GetFault}
 use Rattle.dat_volume.specs.declared.fault.GetFault.TheVariants as get_fault
@@ -61,7 +61,7 @@ unfolding front_damage
 head_size bytes e none = size_by _ _ e.id (size_at bytes) (number_of 8 (drop 4 bytes)) (fields_size e.size) refl none
 
 -- so a record's own bytes are a whole one
-pub head_whole : (bytes : List ℕ) (e : Entry) → front_damage bytes e ≡ None → length bytes ≡ record_length (fields_size e.size) → IsWhole bytes
+pub head_whole : (bytes : List ℕ) (e : Entry) → front_damage bytes e ≡ None → length bytes ≡ record_length (fields_size e.size) → HasWholeRecord bytes
 head_whole bytes e none long =
     let same : length_at bytes ≡ record_length (fields_size e.size) = ap (λ n. (28 + n) + (8 - (28 + n) % 8)) (head_size bytes e none) in
     record { has_header = omega arith; has_end = omega arith }
@@ -85,19 +85,13 @@ none_told damage e (get_fault.Fault device) h = (tt, tt)
 none_told damage e (get_fault.Damaged w a b) h = absurd h
 none_told damage e get_fault.Memory h = (tt, tt)
 
--- a damage of the header comes first
-pub header_first : (dat : List ℕ) (e : Entry) (fault : GetFault) → TellsDamage (header_damage dat) (Some e) fault → TellsDamage (record_damage dat) (Some e) fault
-header_first dat e (get_fault.Fault device) h = tt
-header_first dat e (get_fault.Damaged w a b) h = (h.0, h.1, ap (λ d. first_damage d (reading_damage (needle_at (bytes_from dat h.0)))) h.2)
-header_first dat e get_fault.Memory h = tt
-
 -- ---- records
 
 -- what is read of a whole record is the same, whatever follows
-whole_same : (bytes more : List ℕ) → IsWhole bytes → needle_at (bytes ++ more) ≡ needle_at bytes
+whole_same : (bytes more : List ℕ) → HasWholeRecord bytes → needle_at (bytes ++ more) ≡ needle_at bytes
 whole_same bytes more w =
     let size : size_at (bytes ++ more) ≡ size_at bytes = size_at-append bytes more w.has_header in
-    let longer : IsWhole (bytes ++ more) = record { has_header = omega (arith, w.has_header, length-append bytes more); has_end = rw size (omega (arith, w.has_end, length-append bytes more)) } in
+    let longer : HasWholeRecord (bytes ++ more) = record { has_header = omega (arith, w.has_header, length-append bytes more); has_end = rw size (omega (arith, w.has_end, length-append bytes more)) } in
     needle_at-whole (bytes ++ more) longer
     ∙ ap (λ n. needle_of n (take (length_at (bytes ++ more)) (bytes ++ more))) size
     ∙ ap (λ n. needle_of (size_at bytes) (take n (bytes ++ more))) (ap (λ n. (28 + n) + (8 - (28 + n) % 8)) size)

@@ -9,7 +9,7 @@ use Rattle.needle_record.specs.Records.{Index, end_of}
 use Rattle.image_meaning.specs.Plain.{kept, kept_records, FollowsRecords, IsExact}
 use Rattle.image_meaning.specs.Laws.Plain.{has_super-long, entries-take, exact_follows, exact_kept_records, cut_exact, cut_dat-follows, cut_dat-kept_records, cut_index-follows, cut_index-kept_records}
 use Rattle.dat_volume.specs.declared.volume.DatVolume.{DatVolume}
-use Rattle.dat_volume.specs.Places.{dat_place, idx_place, dat_in, idx_in, KeepsRecords}
+use Rattle.dat_volume.specs.Places.{dat_place, idx_place, dat_in, idx_in, LeavesRecords}
 use Rattle.dat_volume.specs.Opening.{tested, end_by, index_by, KeepsLengths, IsCutOrNot, Opens, IsOpened, IsLoaded, Trims}
 use Rattle.dat_volume.specs.Laws.Opening.{tested-keeps, tested-parts, tested-super, tested-dat, tested-idx, counted-kept, follows-end, follows-index}
 use Rattle.dat_volume.specs.Shortening.{ShortensBoth, AreShortened}
@@ -52,7 +52,7 @@ module _ (server v : ℕ) (dat idx : List ℕ) (follows : FollowsRecords dat idx
   front = take (end_of (kept_records dat idx)) dat
 
   keeps_of : (image : Image) (more found index : List ℕ) → front ++ more ≡ found → image (dat_place server v) ≡ Some found → image (idx_place server v) ≡ Some index → FollowsRecords found index → kept_records found index ≡ kept_records dat idx
-      → KeepsRecords server v image front (kept_records dat idx)
+      → LeavesRecords server v image front (kept_records dat idx)
   keeps_of image more found index is has_dat has_idx goes_on same = record {
     more = more;
     idx = index;
@@ -63,12 +63,12 @@ module _ (server v : ℕ) (dat idx : List ℕ) (follows : FollowsRecords dat idx
   }
 
   -- nothing is cut
-  pub keeps_whole : (image : Image) → image (dat_place server v) ≡ Some dat → image (idx_place server v) ≡ Some idx → KeepsRecords server v image (take (end_of (kept_records dat idx)) dat) (kept_records dat idx)
+  pub keeps_whole : (image : Image) → image (dat_place server v) ≡ Some dat → image (idx_place server v) ≡ Some idx → LeavesRecords server v image (take (end_of (kept_records dat idx)) dat) (kept_records dat idx)
   keeps_whole image has_dat has_idx = keeps_of image (drop (end_of (kept_records dat idx)) dat) dat idx (take-append-drop (end_of (kept_records dat idx)) dat) has_dat has_idx follows refl
 
   -- each is cut or not
   pub keeps_cut : (image : Image) → 8 ≤ length dat → (image (dat_place server v) ≡ Some dat) ⊎ (image (dat_place server v) ≡ Some (take (end_of (kept_records dat idx)) dat))
-      → (image (idx_place server v) ≡ Some idx) ⊎ (image (idx_place server v) ≡ Some (take (16 * kept dat idx) idx)) → KeepsRecords server v image (take (end_of (kept_records dat idx)) dat) (kept_records dat idx)
+      → (image (idx_place server v) ≡ Some idx) ⊎ (image (idx_place server v) ≡ Some (take (16 * kept dat idx) idx)) → LeavesRecords server v image (take (end_of (kept_records dat idx)) dat) (kept_records dat idx)
   keeps_cut image super (inl has_dat) (inl has_idx) = keeps_whole image has_dat has_idx
   keeps_cut image super (inl has_dat) (inr has_idx) =
       keeps_of image (drop (end_of (kept_records dat idx)) dat) dat (take (16 * kept dat idx) idx) (take-append-drop (end_of (kept_records dat idx)) dat) has_dat has_idx

@@ -12,7 +12,8 @@ use Rattle.needle_record.specs.declared.Record.{Record}
 use Rattle.needle_record.specs.Spelling.{record_size, length_of_record}
 use Rattle.needle_record.specs.Laws.Spelling.{found-whole, header-take}
 use Rattle.needle_record.specs.Reading.{needle_at, size_at, HasHeader}
-use Rattle.needle_record.specs.Records.{max_dat, entry_of}
+use Rattle.needle_record.specs.Records.{entry_of}
+use Rattle.world_model.specs.Sizes.{max_dat}
 use Rattle.site_model.specs.declared.error.OpenFault.{OpenFault}
 use Rattle.dat_volume.specs.declared.fault.GetFault.{GetFault}
 use Rattle.dat_volume.specs.declared.fault.GetFault.TheVariants as get_fault
@@ -35,9 +36,6 @@ module _ (dat : List ℕ) (e : Entry) (has : has_record dat e ≡ true) where
   pub own_size : is_size e.size ≡ true
   own_size = ap (λ (x : Entry). is_size x.size) (sym it.its) ∙ is_size-entry (record_size it.found.0)
 
-  pub own_end : entry_end e ≤ max_dat
-  own_end = it.most
-
   -- and nothing is damaged
   pub own_header : header_damage dat e ≡ None
   own_header =
@@ -45,9 +43,6 @@ module _ (dat : List ℕ) (e : Entry) (has : has_record dat e ≡ true) where
       ∙ front_taken 16 (bytes_from dat e) e (omega arith) (found-whole (bytes_from dat e) it.found it.reads).has_header
       ∙ ap (front_damage (take 16 (bytes_from dat e))) (sym it.its)
       ∙ header_right (8 * e.offset, it.found.0) (take 16 (bytes_from dat e)) (header-take (bytes_from dat e) it.found 16 it.reads (omega arith))
-
-  pub own_record : record_damage dat e ≡ None
-  own_record = ap (λ d. first_damage d (reading_damage (needle_at (bytes_from dat e)))) own_header ∙ ap reading_damage it.reads
 
 -- ---- nothing is damaged
 
@@ -89,9 +84,6 @@ read_own dat e r is most none reads =
 
 pub no_size : (dat : List ℕ) (e : Entry) → is_size e.size ≡ false → false ≡ has_record dat e
 no_size dat e other = sym (false_from_ne_true (has_record dat e) (λ has. false≢true (sym other ∙ own_size dat e has)))
-
-pub no_room : (dat : List ℕ) (e : Entry) → max_dat < entry_end e → false ≡ has_record dat e
-no_room dat e far = sym (false_from_ne_true (has_record dat e) (λ has. absurd (omega (arith, far, own_end dat e has))))
 
 -- a damage that is told
 pub damaged_not_own : (Told : Type 0) (dat : List ℕ) (e : Entry) (damage : Entry → Option Damage) (fault : GetFault) (result : Result Bool OpenFault) → (has_record dat e ≡ true → damage e ≡ None)

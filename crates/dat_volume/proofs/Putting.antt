@@ -10,21 +10,21 @@ use Rattle.site_model.specs.Leaves.{starts, weaker}
 use Rattle.site_model.specs.Touches.{touches_none}
 use Rattle.site_model.specs.Counts.{Counts, TakesCalls, widest_piece}
 use Rattle.site_model.specs.Laws.Count.{takes_within}
-use Rattle.whole_file.specs.Pieces.{pieces_of}
+use Rattle.whole_file.specs.Pieces.{append_pieces}
 use Rattle.wire_num.specs.Numbers as numbers
 use Rattle.wire_num.specs.Laws.Number.{length-bytes_of}
-use Rattle.world_model.specs.Sizes.{Fits}
+use Rattle.world_model.specs.Sizes.{FitsRecord, max_dat}
 use Rattle.volume_forms.specs.declared.Entry.{Entry}
 use Rattle.volume_forms.specs.Forms.{entry_bytes}
 use Rattle.needle_record.specs.declared.Record.{Record}
 use Rattle.needle_record.specs.Spelling.{HasRoom, canonical, length_of_record}
 use Rattle.needle_record.specs.Laws.Spelling.{canonical-reads}
-use Rattle.needle_record.specs.Records.{Placed, records_from, max_dat, entry_of}
+use Rattle.needle_record.specs.Records.{Placed, records_from, entry_of}
 use Rattle.needle_record.specs.Laws.Records.{records_from-found, records_from-nothing}
 use Rattle.image_meaning.specs.Plain.{kept_records, IsExact}
 use Rattle.image_meaning.specs.Laws.Plain.{exact_push, torn_follows, torn_dat_follows}
 use Rattle.image_meaning.specs.Laws.Torn.{kept_records-torn, kept_records-before}
-use Rattle.dat_volume.specs.Places.{dat_place, idx_place, KeepsRecords}
+use Rattle.dat_volume.specs.Places.{dat_place, idx_place, LeavesRecords}
 use Rattle.dat_volume.specs.Writes.{Puts, IsPut}
 use Rattle.dat_volume.specs.Laws.Write.{firm_keeps}
 use Rattle.dat_volume.specs.Writing.{HasMore, AppendsRecord, IsAppended}
@@ -43,14 +43,14 @@ puts_none server v used r disk = record {
 }
 
 -- a record of one piece, and its entry
-pub put_calls : (r : Record) (e : Entry) (bytes entry : List ℕ) {old new : Counts} → HasRoom r → IfSome r.content Fits → bytes ≡ canonical r → entry ≡ entry_bytes e
-    → TakesCalls (pieces_of (length bytes) + pieces_of (length entry) + 2) widest_piece old new → length_of_record r ≤ 65536 → TakesCalls 4 65536 old new
+pub put_calls : (r : Record) (e : Entry) (bytes entry : List ℕ) {old new : Counts} → HasRoom r → IfSome r.content FitsRecord → bytes ≡ canonical r → entry ≡ entry_bytes e
+    → TakesCalls (append_pieces (length bytes) + append_pieces (length entry) + 2) widest_piece old new → length_of_record r ≤ 65536 → TakesCalls 4 65536 old new
 put_calls r e bytes entry room fits bytes_are entry_is takes short =
     let long : length bytes ≡ length_of_record r = ap length bytes_are ∙ (canonical-reads r room fits).long in
     let sixteen : length entry ≡ 16 = ap length entry_is ∙ length-entry_bytes e in
     takes_within (omega (arith, long, sixteen, short)) (omega arith) takes
 
-module _ (server v used : ℕ) (r : Record) (room : HasRoom r) (fits : IfSome r.content Fits) (ends : used + length_of_record r ≤ max_dat) where
+module _ (server v used : ℕ) (r : Record) (room : HasRoom r) (fits : IfSome r.content FitsRecord) (ends : used + length_of_record r ≤ max_dat) where
   module _ (dat idx : List ℕ) (ps : List Placed) (exact : IsExact dat idx ps) (is_used : used ≡ length dat) where
     only_one : records_from (length dat) (canonical r) ≡ (used, r) ∷ []
     only_one =
@@ -61,7 +61,7 @@ module _ (server v used : ℕ) (r : Record) (room : HasRoom r) (fits : IfSome r.
         ∙ ap (λ rest. (used, r) ∷ rest) (records_from-nothing (used + length_of_record r))
 
     -- before the entry is written: the old records
-    keeps_before : (image : Image) (n : ℕ) → HasMore dat n (image (dat_place server v)) → image (idx_place server v) ≡ Some idx → KeepsRecords server v image dat ps
+    keeps_before : (image : Image) (n : ℕ) → HasMore dat n (image (dat_place server v)) → image (idx_place server v) ≡ Some idx → LeavesRecords server v image dat ps
     keeps_before image n more same = record {
       more = more.0;
       idx = idx;
@@ -73,13 +73,13 @@ module _ (server v used : ℕ) (r : Record) (room : HasRoom r) (fits : IfSome r.
 
     -- from then on: the old records, or these and the new one
     keeps_after : (image : Image) → image (dat_place server v) ≡ Some (dat ++ canonical r) → HasMore idx (length (entry_bytes (entry_of (used, r)))) (image (idx_place server v))
-        → KeepsRecords server v image dat ps ⊎ KeepsRecords server v image dat (ps ++ (used, r) ∷ [])
+        → LeavesRecords server v image dat ps ⊎ LeavesRecords server v image dat (ps ++ (used, r) ∷ [])
     keeps_after image whole more = ⊎_elim (λ old. inl (keeps ps old)) (λ new. inr (keeps (ps ++ (used, r) ∷ []) (new.3 ∙ ap (λ p. ps ++ p ∷ []) (first_same (sym new.2 ∙ only_one))))) (kept_records-torn dat idx ps exact (canonical r) more.0 short)
       where
         short : length more.0 < 32
         short = omega (arith, more.1, length-entry_bytes (entry_of (used, r)))
 
-        keeps : (qs : List Placed) → kept_records (dat ++ canonical r) (idx ++ more.0) ≡ qs → KeepsRecords server v image dat qs
+        keeps : (qs : List Placed) → kept_records (dat ++ canonical r) (idx ++ more.0) ≡ qs → LeavesRecords server v image dat qs
         keeps qs kept =
             record { more = canonical r; idx = idx ++ more.0; has_dat = whole; has_idx = more.2; follows = torn_follows dat idx ps exact (canonical r) more.0 short; kept = kept }
 

@@ -10,7 +10,8 @@ use Rattle.needle_record.specs.declared.Record.{Record}
 use Rattle.needle_record.specs.declared.NeedleFault.{NeedleFault}
 use Rattle.needle_record.specs.Spelling.{record_size}
 use Rattle.needle_record.specs.Reading.{needle_at}
-use Rattle.needle_record.specs.Records.{max_dat, records_from, entry_of}
+use Rattle.needle_record.specs.Records.{records_from, entry_of}
+use Rattle.world_model.specs.Sizes.{max_dat}
 use Rattle.needle_record.specs.Laws.Records.{records_from-found, records_from-fault, records_from-past, entry_of-place, entry_of-end}
 use Rattle.needle_record.specs.Laws.Spelling.{found-length, length_of_record-in_eights}
 use Rattle.dat_volume.specs.Opening.{is_size, chained, is_entry_of, has_record, has_record_of}

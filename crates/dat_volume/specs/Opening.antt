@@ -13,10 +13,11 @@ use Rattle.volume_forms.specs.Kept.{entry_eq, entry_end, kept_length}
 use Rattle.needle_record.specs.declared.Record.{Record}
 use Rattle.needle_record.specs.declared.NeedleFault.{NeedleFault}
 use Rattle.needle_record.specs.Reading.{needle_at}
-use Rattle.needle_record.specs.Records.{Index, max_dat, end_of, entry_of, index_of}
+use Rattle.needle_record.specs.Records.{Index, end_of, entry_of, index_of}
+use Rattle.world_model.specs.Sizes.{max_dat}
 use Rattle.image_meaning.specs.Plain.{kept, kept_records, FollowsRecords}
 use Rattle.dat_volume.specs.declared.volume.DatVolume.{DatVolume}
-use Rattle.dat_volume.specs.Places.{dat_place, idx_place, dat_in, idx_in, IsOneOfTwo, AreFirmRecords, KeepsRecords}
+use Rattle.dat_volume.specs.Places.{dat_place, idx_place, dat_in, idx_in, IsOneOfTwo, AreFirmRecords, LeavesRecords}
 
 -- ---- what is tested
 
@@ -135,7 +136,7 @@ pub record Opens (server v : ℕ) (old new : Disk) : Type 0 where
   pub touches : Touches (IsOneOfTwo server v) old new
   pub leaves : (dat idx : List ℕ) → old.files (dat_place server v) ≡ Some (firm_file dat) → old.files (idx_place server v) ≡ Some (firm_file idx)
       → FollowsRecords dat idx
-      → Leaves old new (λ image said. KeepsRecords server v image (take (end_of (kept_records dat idx)) dat) (kept_records dat idx))
+      → Leaves old new (λ image said. LeavesRecords server v image (take (end_of (kept_records dat idx)) dat) (kept_records dat idx))
 
 -- Both files end at the lengths to keep, and the volume has the index and the length of what is kept.
 pub record IsOpened (server v : ℕ) (volume : DatVolume) (old new : Files) : Type 0 where

@@ -2,7 +2,7 @@
 use Rattle.std.specs.Prelude.{◌≡◌, ◌⊎◌, ℕ, ◌++◌, List, Some}
 use Rattle.site_model.specs.Disk.{Place, Files, Image, firm_file, bytes_of}
 use Rattle.file_names.specs.declared.Kind.TheVariants.{Dat, Idx}
-use Rattle.whole_file.specs.Held.{final_place, temp_place}
+use Rattle.file_names.specs.Names.{final_place, temp_place}
 use Rattle.needle_record.specs.Records.{Placed}
 use Rattle.image_meaning.specs.Plain.{kept_records, FollowsRecords, IsExact}
 
@@ -41,7 +41,7 @@ pub record AreFirmRecords (server v : ℕ) (files : Files) (dat idx : List ℕ) 
 
 -- A stop left the data file, with this front, and the index. All whole entries but perhaps the last are those of the first
 -- records, and these records are kept.
-pub record KeepsRecords (server v : ℕ) (image : Image) (front : List ℕ) (ps : List Placed) : Type 0 where
+pub record LeavesRecords (server v : ℕ) (image : Image) (front : List ℕ) (ps : List Placed) : Type 0 where
   pub more : List ℕ
   pub idx : List ℕ
   pub has_dat : image (dat_place server v) ≡ Some (front ++ more)

@@ -7,7 +7,7 @@ use Rattle.volume_forms.specs.Forms.{entry_bytes}
 use Rattle.needle_record.specs.declared.Record.{Record}
 use Rattle.needle_record.specs.Spelling.{canonical}
 use Rattle.needle_record.specs.Records.{Placed, Index, entry_of, index_after_content}
-use Rattle.dat_volume.specs.Places.{dat_place, idx_place, dat_temp, idx_temp, dat_in, idx_in, IsOneOfTwo, IsOneOfFour, AreFirmRecords, KeepsRecords}
+use Rattle.dat_volume.specs.Places.{dat_place, idx_place, dat_temp, idx_temp, dat_in, idx_in, IsOneOfTwo, IsOneOfFour, AreFirmRecords, LeavesRecords}
 
 -- ---- the making of a volume
 
@@ -45,7 +45,7 @@ pub record IsCreated (server v : ℕ) (files : Files) : Type 0 where
 pub record Puts (server v used : ℕ) (r : Record) (old new : Disk) : Type 0 where
   pub touches : Touches (IsOneOfTwo server v) old new
   pub leaves : (dat idx : List ℕ) (ps : List Placed) → AreFirmRecords server v old.files dat idx ps → used ≡ length dat
-      → Leaves old new (λ image said. KeepsRecords server v image dat ps ⊎ KeepsRecords server v image dat (ps ++ (used, r) ∷ []))
+      → Leaves old new (λ image said. LeavesRecords server v image dat ps ⊎ LeavesRecords server v image dat (ps ++ (used, r) ∷ []))
 
 -- The record is appended to the data file and its entry to the index, and both are firm.
 pub record IsPut (server v used : ℕ) (r : Record) (old new : Files) : Type 0 where

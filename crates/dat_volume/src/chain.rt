@@ -1,14 +1,13 @@
-// How far the entries of an index follow each other.
+//! How far the entries of an index follow each other.
 ghost use Rattle.std.specs.Prelude.{◌≡◌};
 ghost use Rattle.dat_volume.specs.Opening.{is_size};
 ghost use Rattle.dat_volume.specs.Scanning.{end_behind};
 
-use crate::entering::{DELETION, UNIT};
 use crate::reading::place_of;
-use volume_forms::Entry;
+use volume_forms::{DELETED_SIZE, Entry, OFFSET_UNIT, SUPER_LENGTH};
 
 /// Where a super block ends.
-pub(crate) const SUPER_END: u64 = 8;
+pub(crate) const SUPER_END: u64 = SUPER_LENGTH as u64;
 
 /// What the entries so far of an index tell: how many there are, how many of them follow each other from the super
 /// block on, and the last three.
@@ -43,7 +42,7 @@ impl Chain {
         ensures { result ≡ with_entry self entry }
     {
         let goes_on = self.chained == self.count
-            && u64::from(entry.offset) * UNIT == end_behind(self.last)
+            && u64::from(entry.offset) * OFFSET_UNIT == end_behind(self.last)
             && has_size(entry);
         Chain {
             count: self.count + 1,
@@ -76,5 +75,5 @@ pub(crate) fn end_behind(entry: Option<Entry>) -> u64
 pub(crate) fn has_size(entry: Entry) -> bool
     ensures { result ≡ is_size entry.size }
 {
-    entry.size > 0 || entry.size == DELETION
+    entry.size > 0 || entry.size == DELETED_SIZE
 }

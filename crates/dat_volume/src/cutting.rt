@@ -1,4 +1,4 @@
-// Files cut to the lengths to keep.
+//! Files cut to the lengths to keep.
 ghost use Rattle.std.specs.Prelude.{◌≡◌, ◌≢◌, ◌<◌, IsTrue, IsErr, OnOk};
 ghost use Rattle.site_model.specs.Disk.{cut_to};
 ghost use Rattle.site_model.specs.Counts.{CallsAt};
@@ -29,7 +29,7 @@ pub(crate) fn cut_both<T: Site>(
     Ok(())
 }
 
-/// Cuts the file, where it is longer.
+// Cuts the file, where it is longer.
 fn cut_longer<T: Site>(site: &mut T, server: u32, name: &str, length: u64) -> Result<(), Failed>
     requires server { server < T.servers site.old }
     ensures effect { IsTrue T.tells → Shortens (server, name.now) length (T.disk site.old) (T.disk site.new) }

@@ -1,7 +1,7 @@
-// The index in memory around the write of a record.
+//! The index in memory around the write of a record.
 ghost use Rattle.std.specs.Prelude.{◌≡◌, ◌<◌, ◌^◌, IfSome, IsSome, OnOk, OnErr};
 ghost use Rattle.std.specs.FinMap.{get};
-ghost use Rattle.world_model.specs.Sizes.{Fits};
+ghost use Rattle.world_model.specs.Sizes.{FitsRecord, max_dat};
 ghost use Rattle.needle_record.specs.Spelling.{HasRoom};
 ghost use Rattle.needle_record.specs.Records as records;
 ghost use Rattle.dat_volume.specs.Entering.{index_before, index_behind, index_again};
@@ -9,27 +9,21 @@ ghost use Rattle.dat_volume.specs.Entering.{index_before, index_behind, index_ag
 use needle_map::NeedleMap;
 use needle_record::{Record, record_size};
 use std::alloc::AllocError;
-use volume_forms::Entry;
-
-/// Places in an index are counted in units of so many bytes.
-pub(crate) const UNIT: u64 = 8;
-
-/// The size in the entry of a deletion.
-pub(crate) const DELETION: i32 = -1;
+use volume_forms::{DELETED_SIZE, Entry, OFFSET_UNIT};
 
 /// The entry of a record at this place.
 pub(crate) fn entry_of(needle: &Record, place: u64) -> Entry
-    requires fits { IfSome needle.now.content Fits }
-    requires within { place < 2 ^ 35 }
+    requires fits { IfSome needle.now.content FitsRecord }
+    requires within { place < max_dat }
     ensures { result ≡ records.entry_of (place, needle.now) }
 {
     let size = match needle.content {
         Some(_) => record_size(needle) as i32,
-        None => DELETION,
+        None => DELETED_SIZE,
     };
     Entry {
         id: needle.id,
-        offset: (place / UNIT) as u32,
+        offset: (place / OFFSET_UNIT) as u32,
         size,
     }
 }

@@ -1,3 +1,4 @@
+//! Why a call on a plain volume fails.
 ghost use Rattle.std.specs.Prelude.{◌≡◌};
 ghost use Rattle.dat_volume.specs.declared.fault.VolumeFault.TheVariants.{Memory as VolumeMemory};
 ghost use Rattle.dat_volume.specs.declared.fault.GetFault.TheVariants.{Memory as GetMemory};

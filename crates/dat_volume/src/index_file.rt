@@ -1,4 +1,4 @@
-// An index, read in pieces of whole entries.
+//! An index, read in pieces of whole entries.
 ghost use Rattle.std.specs.Prelude.{◌≡◌, ◌+◌, ◌-◌, ◌*◌, ◌/◌, ◌%◌, ◌^◌, ◌<◌, ◌≤◌, ◌⊎◌, min, IsTrue, IfOk, IfErr, IsErr, IsErrOf, OnOk, length, take, drop};
 ghost use Rattle.site_model.specs.Disk.{bytes_of, length_of};
 ghost use Rattle.site_model.specs.Counts.{CallsAt, widest_piece};
@@ -8,17 +8,13 @@ ghost use Rattle.dat_volume.specs.Scanning.{no_chain, with_entries};
 
 use crate::chain::Chain;
 use needle_map::NeedleMap;
-use site_model::{DeviceFault, OpenFault, Site};
+use site_model::{DeviceFault, OpenFault, PIECE, Site};
 use std::alloc::{AllocError, Global};
-use volume_forms::read_entry;
-use whole_file::PIECE;
-
-/// The bytes of an entry.
-pub(crate) const ENTRY: usize = 16;
+use volume_forms::{ENTRY_LENGTH, read_entry};
 
 /// Room for a piece of an index.
 pub(crate) fn piece_buffer(alloc: Global) -> Result<Vec<u8>, AllocError>
-    ensures { IfOk result (λ buffer. length buffer.items ≡ 65536) }
+    ensures { IfOk result (λ buffer. length buffer.items ≡ widest_piece) }
 {
     vec![in alloc; 0; PIECE]
 }
@@ -141,7 +137,7 @@ fn scan_piece(bytes: &[u8], chain: Chain) -> Chain
 {
     let mut chain = chain;
     let mut rest = bytes;
-    while let Some((entry, behind)) = rest.split_first_chunk::<ENTRY>() {
+    while let Some((entry, behind)) = rest.split_first_chunk::<ENTRY_LENGTH>() {
         chain = chain.push(read_entry(entry));
         rest = behind;
     }
@@ -153,7 +149,7 @@ fn index_piece(bytes: &[u8], index: &mut NeedleMap) -> Result<(), AllocError>
     ensures { OnOk result (index.new ≡ index_by_from index.old (entries bytes.now)) }
 {
     let mut rest = bytes;
-    while let Some((entry, behind)) = rest.split_first_chunk::<ENTRY>() {
+    while let Some((entry, behind)) = rest.split_first_chunk::<ENTRY_LENGTH>() {
         let entry = read_entry(entry);
         if entry.size < 0 {
             index.remove(entry.id);

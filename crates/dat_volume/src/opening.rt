@@ -1,4 +1,4 @@
-// The tests of a volume's two files, by which it is told how much of them to keep.
+//! The tests of a volume's two files, by which it is told how much of them to keep.
 ghost use Rattle.std.specs.Option.{option_map_or};
 ghost use Rattle.std.specs.Prelude.{◌≡◌, ◌⊎◌, ◌*◌, ◌<◌, ◌≤◌, ◌^◌, List, IsTrue, IfSome, IfOk, IfErr, IsErr, IsErrOf, MatchBool, Ok, true};
 ghost use Rattle.site_model.specs.Disk.{bytes_of, length_of};
@@ -11,20 +11,18 @@ ghost use Rattle.dat_volume.specs.Scanning.{HasChain, FailsEntries, IsAccepted, 
 
 use crate::GetFault;
 use crate::chain::{Chain, SUPER_END, end_behind, has_size};
-use crate::index_file::{ENTRY, piece_buffer, scan};
+use crate::index_file::{piece_buffer, scan};
 use crate::reading::{cookie_at, record_at};
 use site_model::{DeviceFault, OpenFault, Site};
 use std::alloc::Global;
-use volume_forms::{Entry, read_super};
+use volume_forms::{ENTRY_LENGTH, Entry, read_super};
+use world_model::limits::MAX_DAT;
 
-/// The rule that an index follows the records.
+// The rule that an index follows the records.
 const RULE_RECORDS: u8 = 1;
 
-/// The rule that a data file has an accepted super block.
+// The rule that a data file has an accepted super block.
 const RULE_SUPER: u8 = 3;
-
-/// No record ends behind this.
-const MAX_DAT: u64 = 1 << 35;
 
 /// How much is kept: the number of entries, and where their records end.
 #[derive(Clone, Copy)]
@@ -89,7 +87,13 @@ pub(crate) fn count_entries<T: Site>(
 {
     let size = size_of(site, server, idx)?;
     let mut buffer = piece_buffer(alloc)?;
-    let chain = scan(site, server, idx, size - size % ENTRY as u64, &mut buffer)?;
+    let chain = scan(
+        site,
+        server,
+        idx,
+        size - size % ENTRY_LENGTH as u64,
+        &mut buffer,
+    )?;
     let Some(kept) = accept(alloc, site, server, dat, chain)? else {
         return Err(OpenFault::Unsound {
             volume,

@@ -1,30 +1,31 @@
+//! A plain volume: a data file of records, and its index.
+ghost use Rattle.site_model.specs.Counts.{widest_piece};
+ghost use Rattle.world_model.specs.Sizes.{max_dat};
+
+use crate::chain::SUPER_END;
 use crate::cutting::cut_both;
 use crate::entering::{enter, entry_of, numbers_have_room, settle, take_back};
 use crate::holder::holder_at;
-use crate::index_file::{ENTRY, read_index};
-use crate::names::{final_name, temp_name};
+use crate::index_file::read_index;
 use crate::opening::{count_entries, examine};
 use crate::reading::{cookie_at, record_at};
 use crate::writing::{NewNames, append_record, make_files};
 use crate::{GetFault, VolumeFault};
-use file_names::Kind;
+use file_names::{Kind, final_name, temp_name};
 use needle_map::NeedleMap;
 use needle_record::{Record, record_size, write_record};
 use site_model::{DeviceFault, OpenFault, Site};
 use std::alloc::Global;
-use volume_forms::{SuperBlock, write_entry, write_super};
+use volume_forms::{ENTRY_LENGTH, SuperBlock, write_entry, write_super};
 use wire_num::record_length;
 
-/// The super block of a new volume.
+// The super block of a new volume.
 const NEW_BLOCK: SuperBlock = SuperBlock {
     version: 3,
     placement: 0,
     ttl: 0,
     revision: 0,
 };
-
-/// The bytes of a super block.
-const SUPER: u64 = 8;
 
 /// A plain volume at a server: the index in memory, and the length of the data file.
 #[derive(Drop)]
@@ -39,7 +40,7 @@ impl DatVolume {
     ghost use Rattle.std.specs.Prelude.{◌≡◌, ◌≢◌, ◌+◌, ◌<◌, ◌≤◌, ◌^◌, IsTrue, IsSome, IfSome, IfOk, IfErr, IsErrOf, OnOk, OnErr, MatchResult, List, Ok, length};
     ghost use Rattle.std.specs.FinMap.{empty, get};
     ghost use Rattle.site_model.specs.Counts.{CallsAt, TakesCalls};
-    ghost use Rattle.world_model.specs.Sizes.{Fits};
+    ghost use Rattle.world_model.specs.Sizes.{FitsRecord};
     ghost use Rattle.needle_record.specs.Spelling.{length_of_record};
     ghost use Rattle.needle_record.specs.Records.{Placed, fold_records};
     ghost use Rattle.image_meaning.specs.Files.{contents, files_of, has_index};
@@ -79,7 +80,7 @@ impl DatVolume {
                 server,
                 volume,
                 index: NeedleMap::new(alloc),
-                used: SUPER,
+                used: SUPER_END,
             }),
             Err(_) => Err(VolumeFault::Fault(DeviceFault { server })),
         }
@@ -111,7 +112,7 @@ impl DatVolume {
         let dat = final_name(alloc, volume, Kind::Dat)?;
         let idx = final_name(alloc, volume, Kind::Idx)?;
         let kept = examine(alloc, site, server, volume, &dat, &idx)?;
-        let index_end = kept.count * ENTRY as u64;
+        let index_end = kept.count * ENTRY_LENGTH as u64;
         let index = read_index(alloc, site, server, &idx, index_end)?;
         match cut_both(site, server, &dat, kept.end, &idx, index_end) {
             Ok(()) => Ok(DatVolume {
@@ -148,7 +149,7 @@ impl DatVolume {
         let dat = final_name(alloc, volume, Kind::Dat)?;
         let idx = final_name(alloc, volume, Kind::Idx)?;
         let kept = examine(alloc, site, server, volume, &dat, &idx)?;
-        let index = read_index(alloc, site, server, &idx, kept.count * ENTRY as u64)?;
+        let index = read_index(alloc, site, server, &idx, kept.count * ENTRY_LENGTH as u64)?;
         Ok(DatVolume {
             server,
             volume,
@@ -183,7 +184,7 @@ impl DatVolume {
     {
         let holder = holder_at(alloc, site, server, volume)?;
         let kept = examine(alloc, site, server, volume, &holder.dat, &holder.idx)?;
-        Ok((kept.end, kept.count * ENTRY as u64))
+        Ok((kept.end, kept.count * ENTRY_LENGTH as u64))
     }
 
     /// How many entries of the index are kept, by the tests of `check`, whatever the super block is. `Unsound` has
@@ -254,8 +255,8 @@ impl DatVolume {
         needle: &Record,
     ) -> Result<(), VolumeFault>
         requires server { self.old.server < T.servers site.old }
-        requires fits { IfSome needle.now.content Fits }
-        requires room { self.old.used + length_of_record needle.now ≤ 2 ^ 35 }
+        requires fits { IfSome needle.now.content FitsRecord }
+        requires room { self.old.used + length_of_record needle.now ≤ max_dat }
         ensures ok { OnOk result (self.new
             ≡ record {
               server = self.old.server;
@@ -271,8 +272,8 @@ impl DatVolume {
             → IsPut self.old.server self.old.volume self.old.used needle.now (T.disk site.old).files
             (T.disk site.new).files) }
         ensures memory { IsErrOf result VolumeFault.Memory → site.new ≡ site.old }
-        ensures calls { length_of_record needle.now ≤ 65536
-            → TakesCalls 4 65536 (T.counts site.old) (T.counts site.new) }
+        ensures calls { length_of_record needle.now ≤ widest_piece
+            → TakesCalls 4 widest_piece (T.counts site.old) (T.counts site.new) }
         ensures runs { CallsAt T.counts T.servers self.old.server site.old site.new
             (IsErrOf result (VolumeFault.Fault (record { server = self.old.server }))) }
         ensures blame { IfErr result (BlamesServer self.old.server) }

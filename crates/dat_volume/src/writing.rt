@@ -1,7 +1,7 @@
-// The writes to a volume's two files, in their order.
+//! The writes to a volume's two files, in their order.
 ghost use Rattle.std.specs.Prelude.{◌≢◌, ◌<◌, ◌+◌, IsTrue, IsErr, OnOk, length};
 ghost use Rattle.site_model.specs.Counts.{CallsAt, TakesCalls, widest_piece};
-ghost use Rattle.whole_file.specs.Pieces.{pieces_of};
+ghost use Rattle.whole_file.specs.Pieces.{append_pieces};
 ghost use Rattle.dat_volume.specs.NewFiles.{under_names, AreApart, NoneOf, Makes, AreMade};
 ghost use Rattle.dat_volume.specs.Writing.{AppendsRecord, IsAppended};
 
@@ -56,8 +56,8 @@ pub(crate) fn append_record<T: Site>(
     ensures done { OnOk result (IsTrue T.tells
         → IsAppended (server, dat.now) (server, idx.now) bytes.now entry.now (T.disk site.old).files
         (T.disk site.new).files) }
-    ensures calls { TakesCalls (pieces_of (length bytes.now) + pieces_of (length entry.now) + 2) widest_piece
-        (T.counts site.old) (T.counts site.new) }
+    ensures calls { TakesCalls (append_pieces (length bytes.now) + append_pieces (length entry.now) + 2)
+        widest_piece (T.counts site.old) (T.counts site.new) }
     ensures runs { CallsAt T.counts T.servers server site.old site.new (IsErr result) }
 {
     append_firm(site, server, dat, bytes)?;

@@ -1,6 +1,7 @@
 -- How long a shard can be.
 use Rattle.std.proofs.Common.{◌≡◌, ℕ, zero, suc, ◌+◌, ◌-◌, ◌*◌, ◌^◌, ◌<◌, ◌≤◌, ◌∙◌, ap, arith}
 use Rattle.std.proofs.Math.Nat.{div-mul-le_self, mul-le-mul_right}
+use Rattle.world_model.specs.Sizes.{max_dat}
 use Rattle.world_model.specs.Ratios.{data_count-some, data_count-twelve}
 use Rattle.stripe_layout.specs.declared.Geometry.{Geometry}
 use Rattle.stripe_layout.specs.Stripes.{GeometryInRange, row_width, rounded_up, large_rows, small_rows, shard_length}
@@ -37,5 +38,5 @@ module _ (g : Geometry) (n : ℕ) (range : GeometryInRange g) where
       let narrow : row_width g * g.small ≤ 12 * g.small = mul-le-mul_right g.small (data_count-twelve g.ratio) in
       omega (arith, wider (row_width g) (small_rows g n) g.small (data_count-some g.ratio), rounded_up-most rest row some, narrow, range.small, range.large)
 
-  pub length_fits : n ≤ 2 ^ 35 → shard_length g n < 2 ^ 64
+  pub length_fits : n ≤ max_dat → shard_length g n < 2 ^ 64
   length_fits h = omega (arith, h, large_part_below, small_part_below)

@@ -2,14 +2,14 @@
 use Rattle.std.proofs.Common.{sym, subst}
 use Rattle.std.specs.Prelude.{◌≡◌, ℕ, ◌+◌, ◌<◌, ◌≤◌, List, length, slice_index, Some, IsSome}
 use Rattle.site_model.specs.Disk.{Files, bytes_of}
-use Rattle.site_model.specs.Counts.{Counts}
+use Rattle.site_model.specs.Counts.{Counts, max_servers}
 use Rattle.world_model.specs.declared.types.Ratio.{Ratio}
 use Rattle.world_model.specs.Ratios.{data_count, parity_count}
 use Rattle.rs_code.specs.Codeword.{IsCodeword, value_through}
 use Rattle.stripe_layout.specs.declared.Info.{Info}
 use Rattle.stripe_layout.specs.Stripes.{column, shard_length, shards_in_all}
 use Rattle.shard_table.specs.Table.{Row, place_in}
-use Rattle.image_meaning.specs.Files.{VolumeFiles, contents, files_of, max_servers}
+use Rattle.image_meaning.specs.Files.{VolumeFiles, contents, files_of}
 use Rattle.image_meaning.specs.Coded.{known_at, volume_info}
 use Rattle.image_meaning.specs.Sound.{HasStripes}
 use Rattle.image_meaning.specs.Laws.CodedLoss.{length-dat_of}

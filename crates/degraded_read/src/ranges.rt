@@ -1,6 +1,7 @@
 // A range of a data file: the pieces of its shards, one after the other, each in parts.
 ghost use Rattle.std.specs.Prelude.{◌≡◌, ◌<◌, ◌≤◌, ◌+◌, ◌*◌, ◌^◌, ℕ, IsTrue, IfErr, IsErrOf, OnOk, Some, length};
 ghost use Rattle.std.specs.List.{AllByRecursion, sum_by};
+ghost use Rattle.world_model.specs.Sizes.{max_dat};
 ghost use Rattle.site_model.specs.Counts.{Calls, Counts, IsLater};
 ghost use Rattle.stripe_layout.specs.Pieces.{IsPiece};
 ghost use Rattle.stripe_layout.specs.Stripes.{GeometryInRange, shard_length};
@@ -31,7 +32,7 @@ impl Reader {
             info.now (row_of table.now self.old.volume) }
         requires enough { HasEnoughShards info.now (row_of table.now self.old.volume) }
         requires geometry { GeometryInRange info.now.geometry }
-        requires dat_size { info.now.dat_size ≤ 2 ^ 35 }
+        requires dat_size { info.now.dat_size ≤ max_dat }
         requires range { offset + length out.old ≤ info.now.dat_size }
         ensures range { OnOk result (IsTrue T.tells
             → GivesRange (T.disk site.old).files self.old.volume info.now offset out.new) }

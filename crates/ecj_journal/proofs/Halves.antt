@@ -16,10 +16,6 @@ use Rattle.ecj_journal.specs.Journals.{AppendsPair, GrowsBy}
 appended : {p : Place} {bytes : List ℕ} {old new : Disk} → Appends p bytes old new → Leaves old new (WithinCall (appends p bytes) old)
 appended {p} {bytes} {old} {new} did = by_append (starts old (λ image left. (left_before (appends p bytes) old.files image left, refl))) did (λ image left. (left, refl))
 
--- one append
-pub only_appended : {p : Place} {bytes : List ℕ} {old new : Disk} → Appends p bytes old new → AppendsFirm p bytes old new
-only_appended did = record { leaves = appended did; said = did.said; others = did.others }
-
 -- and a sync
 pub then_synced : {p : Place} {bytes : List ℕ} {old mid new : Disk} → Appends p bytes old mid → Syncs p mid new → AppendsFirm p bytes old new
 then_synced did synced = record {

@@ -1,4 +1,4 @@
-// An id behind a journal.
+//! An id behind a journal.
 ghost use Rattle.std.specs.Prelude.{◌≡◌, ◌<◌, ◌+◌, ◌++◌, ◌^◌, ◌≤◌, IsTrue, IfErr, IsErr, OnOk, Some, length};
 ghost use Rattle.site_model.specs.Disk.{bytes_of, firm_file};
 ghost use Rattle.site_model.specs.Counts.{CallsAt, HasWriteCause, TakesCalls};

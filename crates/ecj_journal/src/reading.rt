@@ -1,18 +1,18 @@
-// The ids of a journal.
+//! The ids of a journal.
 ghost use Rattle.std.specs.Prelude.{◌≡◌, ◌<◌, ◌+◌, ◌*◌, ◌⊎◌, ◌≤◌, IsTrue, IfOk, IfErr, IsErrOf, length};
 ghost use Rattle.site_model.specs.Disk.{bytes_of};
 ghost use Rattle.site_model.specs.Counts.{CallsAt};
 ghost use Rattle.wire_num.specs.Pairs.{pairs};
-ghost use Rattle.whole_file.specs.Held.{final_place};
+ghost use Rattle.file_names.specs.Names.{final_place};
 ghost use Rattle.ecj_journal.specs.Journals.{IsJournalOf};
 
-use file_names::{FileName, Kind, spell};
+use file_names::{Kind, final_name};
 use site_model::{DeviceFault, Site};
 use std::alloc::{AllocError, Global};
 use whole_file::{FileFault, read_range};
 use wire_num::get_u64;
 
-/// The bytes of a pair.
+// The bytes of a pair.
 const PAIR: usize = 16;
 
 /// What a journal's file holds.
@@ -40,14 +40,7 @@ pub fn read_pairs<T: Site>(
     ensures blame { IfErr result (λ fault. (fault ≡ FileFault.Memory)
         ⊎ (fault ≡ FileFault.Fault (record { server = server }))) }
 {
-    let name = spell(
-        alloc,
-        &FileName {
-            volume,
-            kind: Kind::Ecj,
-            temp: false,
-        },
-    )?;
+    let name = final_name(alloc, volume, Kind::Ecj)?;
     let size = match site.size(server, &name) {
         Ok(Some(size)) => size as usize,
         Ok(None) => 0,

@@ -1,4 +1,4 @@
-// Journals at the one server of a site in memory, with stops and without.
+//! Journals at the one server of a site in memory, with stops and without.
 ghost use Rattle.std.specs.Prelude.{◌≡◌, ◌<◌, ◌≤◌, IfOk};
 ghost use Rattle.site_mem.specs.Site.{counts_at};
 
@@ -14,15 +14,15 @@ const VOLUME: u32 = 7;
 
 const JOURNAL: &str = "7.ecj";
 
-/// The ids that are put behind an absent journal.
+// The ids that are put behind an absent journal.
 const IDS: [u64; 2] = [5, 0x0102_0304_0506_0708];
 
-/// The bytes of that journal.
+// The bytes of that journal.
 const BYTES: [u8; 32] = [
     0, 0, 0, 0, 0, 0, 0, 5, 0, 0, 0, 0, 0, 0, 0, 5, 1, 2, 3, 4, 5, 6, 7, 8, 1, 2, 3, 4, 5, 6, 7, 8,
 ];
 
-/// The calls that put one id: an append and a sync for each half.
+// The calls that put one id: an append and a sync for each half.
 const CALLS: u64 = 4;
 
 #[derive(Drop)]
@@ -37,7 +37,7 @@ impl Server {
         Ok(Server { site })
     }
 
-    /// With a journal of these halves, and so many bytes behind them.
+    // With a journal of these halves, and so many bytes behind them.
     fn with_journal(alloc: Global, halves: &[u64], torn: usize) -> Result<Server, AllocError> {
         let mut bytes = Vec::new(alloc);
         for half in halves {
@@ -51,7 +51,7 @@ impl Server {
         Ok(Server { site })
     }
 
-    /// With both ids, put behind each other.
+    // With both ids, put behind each other.
     fn with_ids(alloc: Global) -> Result<Server, Fail> {
         let mut server = Server::new(alloc)?;
         append_pair(&mut server.site, 0, JOURNAL, IDS[0])?;
@@ -71,7 +71,7 @@ impl Server {
         read_pairs(alloc, &mut self.site, 0, VOLUME)
     }
 
-    /// Sees the bytes of the journal.
+    // Sees the bytes of the journal.
     fn see_file(&self, rt: &impl Abort, bytes: &[u8]) {
         let is_same = match self.site.file(0, JOURNAL) {
             Some(found) => found == bytes,
@@ -80,7 +80,7 @@ impl Server {
         assert!(rt; is_same);
     }
 
-    /// Sees what the journal has.
+    // Sees what the journal has.
     fn see(&mut self, rt: &impl Abort, alloc: Global, ids: &[u64], rest: u64) -> Result<(), Fail> {
         let journal = self.read(alloc)?;
         assert_eq!(rt; journal.ids.as_slice(), ids);
@@ -98,7 +98,7 @@ fn each_id_stands_twice(rt: HostRuntime) -> Result<(), Fail> {
     server.see(&rt, alloc, &IDS, 0)
 }
 
-/// How many pairs and bytes behind them a stop leaves within a call, counted from the first of the id.
+// How many pairs and bytes behind them a stop leaves within a call, counted from the first of the id.
 fn pairs_left(call: u64, tear: Tear) -> (usize, u64) {
     let is_second_half = 2 < call;
     match tear {

@@ -1,9 +1,9 @@
-// A journal written whole.
+//! A journal written whole.
 ghost use Rattle.std.specs.Prelude.{◌≡◌, ◌<◌, ◌+◌, ◌*◌, ◌⊎◌, IsTrue, IfOk, IfErr, IsErrOf, OnOk, length};
 ghost use Rattle.site_model.specs.Counts.{CallsAt, TakesCalls, widest_piece};
 ghost use Rattle.wire_num.specs.Pairs.{journal_bytes};
-ghost use Rattle.whole_file.specs.Held.{final_place, temp_place};
-ghost use Rattle.whole_file.specs.Pieces.{pieces_of};
+ghost use Rattle.file_names.specs.Names.{final_place, temp_place};
+ghost use Rattle.whole_file.specs.Pieces.{append_pieces};
 ghost use Rattle.whole_file.specs.Whole.{WritesWhole, IsWritten};
 
 use crate::appending::half_of;
@@ -28,7 +28,7 @@ pub fn write_pairs<T: Site>(
         → IsWritten (final_place server volume Kind.Ecj) (temp_place server volume Kind.Ecj)
         (journal_bytes ids.now) (T.disk site.new)) }
     ensures memory { IsErrOf result FileFault.Memory → site.new ≡ site.old }
-    ensures calls { TakesCalls (pieces_of (16 * length ids.now) + 4) widest_piece
+    ensures calls { TakesCalls (append_pieces (16 * length ids.now) + 4) widest_piece
         (T.counts site.old) (T.counts site.new) }
     ensures runs { CallsAt T.counts T.servers server site.old site.new
         (IsErrOf result (FileFault.Fault (record { server = server }))) }

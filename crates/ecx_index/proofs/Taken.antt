@@ -134,9 +134,6 @@ pub record HasDone (bytes rest : List ℕ) (old new : Loading) : Type 0 where
   pub split : entries bytes ≡ done ++ entries rest
   pub taken : Takes done old new
 
-pub none_done : (bytes : List ℕ) (loading : Loading) → HasDone bytes bytes loading loading
-none_done bytes loading = record { done = []; split = refl; taken = λ es taken. subst (λ (l : List Entry). HasTaken l loading) (sym (append-nil es)) taken }
-
 first_is : (rest first behind : List ℕ) (e : Entry) → first ≡ take 16 rest → behind ≡ drop 16 rest → 16 ≤ length rest → e ≡ entry_at first → entries rest ≡ e ∷ entries behind
 first_is rest first behind e front back long reads =
     entries-first rest long ∙ (λ i. (sym (reads ∙ ap entry_at front) i) ∷ entries (sym back i))

@@ -43,17 +43,6 @@ alone : (es : List Entry) → map (λ (p : ℕ × Entry). p.1) (under_ids es) �
 alone [] = refl
 alone (e ∷ es) = ap (λ rest. e ∷ rest) (alone es)
 
--- Where the ids rise, the map has the entries in their order.
-pub values-map_of : (es : List Entry) → IsStrictlyIncreasing (map (λ e. e.id) es) → values (map_of es) ≡ es
-unfolding map_of
-values-map_of es rising =
-    let in_order : T (is_sorted nat_cmp (under_ids es)) = sorted es (sorted_from_strictly_increasing (map (λ (e : Entry). e.id) es) rising) in
-    let same : entries (from_entries {R = nat_cmp} (under_ids es)) ≡ under_ids es =
-    ap entries (same_map nat_cmp_total nat_cmp-IsAntisymmetric (from_entries (under_ids es)) (from_sorted (under_ids es)) (λ q.
-    get-from_entries nat_cmp_total (under_ids es) q ∙ sym (get-from_sorted nat_cmp (under_ids es) q in_order)))
-    ∙ entries-from_sorted nat_cmp (under_ids es) in_order in
-    ap (map (λ (p : ℕ × Entry). p.1)) same ∙ alone es
-
 -- ---- an entry more
 
 tied : (o : Ordering) → is_eq o ≡ true → o ≡ Equal

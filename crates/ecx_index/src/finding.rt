@@ -1,4 +1,4 @@
-// A search by halves.
+//! A search by halves.
 ghost use Rattle.std.specs.Prelude.{◌≡◌, ◌<◌, ◌+◌, ◌*◌, ◌/◌, ◌≤◌, ◌^◌, IsTrue, IfOk, IfErr, IsErr, drop};
 ghost use Rattle.site_model.specs.Disk.{bytes_of, length_of};
 ghost use Rattle.site_model.specs.Counts.{CallsAt, CountsRead};
@@ -6,10 +6,9 @@ ghost use Rattle.volume_forms.specs.Forms.{entry_at};
 ghost use Rattle.ecx_index.specs.Search.{entries_in, IsEntryOf, TakesFewReads};
 
 use site_model::{DeviceFault, Site};
-use volume_forms::{Entry, read_entry};
+use volume_forms::{ENTRY_LENGTH, Entry, read_entry};
 
-/// The bytes of an entry.
-const ENTRY: u64 = 16;
+const ENTRY: u64 = ENTRY_LENGTH as u64;
 
 /// The entry of the id, or `None`, which says that no entry has the id where the ids of the file rise. The file
 /// is searched by halves, one entry of 16 bytes a read. An absent file has no entry, and bytes behind the whole

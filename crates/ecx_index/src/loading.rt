@@ -1,21 +1,17 @@
-// A whole index, read in pieces of whole entries.
+//! A whole index, read in pieces of whole entries.
 ghost use Rattle.std.specs.Prelude.{◌≡◌, ◌<◌, ◌-◌, ◌≤◌, ◌%◌, ◌↔◌, min, Some, IsTrue, IfOk, IfErr, IsErr, IsErrOf, length, take, drop};
 ghost use Rattle.site_model.specs.Disk.{bytes_of, length_of, size_of};
-ghost use Rattle.site_model.specs.Counts.{CallsAt};
-ghost use Rattle.whole_file.specs.Held.{final_place};
+ghost use Rattle.site_model.specs.Counts.{CallsAt, widest_piece};
+ghost use Rattle.file_names.specs.Names.{final_place};
 ghost use Rattle.ecx_index.specs.Loading.{IsIndexFile, IsLoaded, Blames, IsAbove};
 
-use file_names::{FileName, Kind, spell};
+use file_names::{Kind, final_name};
 use needle_map::NeedleMap;
-use site_model::{DeviceFault, OpenFault, Site};
+use site_model::{DeviceFault, OpenFault, PIECE, Site};
 use std::alloc::{AllocError, Global};
-use volume_forms::{Entry, read_entry};
-use whole_file::PIECE;
+use volume_forms::{ENTRY_LENGTH, Entry, read_entry};
 
-/// The bytes of an entry.
-const ENTRY: usize = 16;
-
-/// The rule that an index is whole entries, by rising id, of contents.
+// The rule that an index is whole entries, by rising id, of contents.
 const RULE_INDEX: u8 = 5;
 
 /// The index of a coded volume at a server, read whole, in pieces of at most 65,536 bytes. `Unsound` has rule 5
@@ -37,20 +33,13 @@ pub fn load<T: Site>(
     ensures runs { CallsAt T.counts T.servers server site.old site.new
         (IsErrOf result (OpenFault.Fault server)) }
 {
-    let name = spell(
-        alloc,
-        &FileName {
-            volume,
-            kind: Kind::Ecx,
-            temp: false,
-        },
-    )?;
+    let name = final_name(alloc, volume, Kind::Ecx)?;
     let mut room = room_for_a_piece(alloc)?;
     load_named(alloc, site, server, volume, &name, &mut room)
 }
 
 fn room_for_a_piece(alloc: Global) -> Result<Vec<u8>, AllocError>
-    ensures { IfOk result (λ room. length room.items ≡ 65536) }
+    ensures { IfOk result (λ room. length room.items ≡ widest_piece) }
 {
     vec![in alloc; 0; PIECE]
 }
@@ -65,7 +54,7 @@ fn load_named<T: Site>(
     room: &mut [u8],
 ) -> Result<NeedleMap, OpenFault>
     requires server { server < T.servers site.old }
-    requires room { length room.old ≡ 65536 }
+    requires room { length room.old ≡ widest_piece }
     ensures index { IfOk result (λ index. IsTrue T.tells
         → IsLoaded ((T.disk site.old).files (server, name.now)) index) }
     ensures unsound { IsErrOf result (OpenFault.Unsound volume 5) → IsTrue T.tells
@@ -105,7 +94,7 @@ fn length_of_index<T: Site>(
         (IsErrOf result (OpenFault.Fault server)) }
 {
     match site.size(server, name) {
-        Ok(Some(size)) if size % ENTRY as u64 == 0 => Ok(size),
+        Ok(Some(size)) if size % ENTRY_LENGTH as u64 == 0 => Ok(size),
         Ok(_) => Err(OpenFault::Unsound {
             volume,
             rule: RULE_INDEX,
@@ -125,7 +114,7 @@ fn read_piece<T: Site>(
 ) -> Result<usize, DeviceFault>
     requires server { server < T.servers site.old }
     requires some { at < end }
-    requires narrow { length room.old ≤ 65536 }
+    requires narrow { length room.old ≤ widest_piece }
     requires within { IsTrue T.tells → end ≤ length_of ((T.disk site.old).files (server, name.now)) }
     ensures count { IfOk result (λ count. count ≡ min (length room.old) (end - at)) }
     ensures room { length room.new ≡ length room.old }
@@ -178,7 +167,7 @@ impl Loading {
         ensures volume { self.new.volume ≡ self.old.volume }
     {
         let mut rest = bytes;
-        while let Some((entry, behind)) = rest.split_first_chunk::<ENTRY>() {
+        while let Some((entry, behind)) = rest.split_first_chunk::<ENTRY_LENGTH>() {
             self.take(read_entry(entry))?;
             rest = behind;
         }

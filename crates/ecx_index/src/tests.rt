@@ -1,4 +1,4 @@
-// Searches in files of several lengths, and whole files loaded.
+//! Searches in files of several lengths, and whole files loaded.
 ghost use Rattle.std.specs.Prelude.{◌≡◌};
 
 use crate::{find, load};
@@ -14,16 +14,16 @@ const VOLUME: u32 = 7;
 
 const INDEX: &str = "7.ecx";
 
-/// What is told of a file that isn't a sorted index.
+// What is told of a file that isn't a sorted index.
 const UNSOUND: OpenFault = OpenFault::Unsound {
     volume: VOLUME,
     rule: 5,
 };
 
-/// How far one id is from the next.
+// How far one id is from the next.
 const STRIDE: u64 = 3;
 
-/// The entry at this place. The first ids are 1, 4 and 7.
+// The entry at this place. The first ids are 1, 4 and 7.
 fn entry(place: u64) -> Entry {
     Entry {
         id: place.saturating_mul(STRIDE).saturating_add(1),
@@ -32,7 +32,7 @@ fn entry(place: u64) -> Entry {
     }
 }
 
-/// A site of one server.
+// A site of one server.
 #[derive(Drop)]
 struct Server {
     site: MemSite,
@@ -40,7 +40,7 @@ struct Server {
 }
 
 impl Server {
-    /// With an index of so many entries.
+    // With an index of so many entries.
     fn with_entries(alloc: Global, count: u64) -> Result<Server, Fail> {
         let mut bytes = Vec::new(alloc);
         for place in 0..count {
@@ -49,7 +49,7 @@ impl Server {
         Server::with_bytes(alloc, &bytes)
     }
 
-    /// With an index of these bytes.
+    // With an index of these bytes.
     fn with_bytes(alloc: Global, bytes: &[u8]) -> Result<Server, Fail> {
         let mut site = MemSite::new(alloc, 1)?;
         site.add_file(0, INDEX, bytes)?;
@@ -60,7 +60,7 @@ impl Server {
         load(alloc, &mut self.site, 0, VOLUME)
     }
 
-    /// Searches the id, and sees that this takes one look at the size and at most so many reads.
+    // Searches the id, and sees that this takes one look at the size and at most so many reads.
     fn see(
         &mut self,
         rt: &impl Abort,

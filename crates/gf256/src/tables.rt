@@ -3,7 +3,7 @@ ghost use Rattle.std.specs.Prelude.{◌≡◌, ◌<◌, ◌*◌};
 ghost use Rattle.gf256.specs.Field.{field_mul};
 ghost use Rattle.gf256.specs.Tables.{Tabulates};
 
-/// x^8 + x^4 + x^3 + x^2 + 1, modulo which products are taken.
+// x^8 + x^4 + x^3 + x^2 + 1, modulo which products are taken.
 const POLYNOMIAL: u16 = 0x11D;
 
 /// The product of a nibble and a byte, not yet reduced.

@@ -14,7 +14,8 @@ use Rattle.file_names.specs.Names.{IsKind, max_shards}
 use Rattle.stripe_layout.specs.declared.Info.{Info}
 use Rattle.needle_record.specs.Records.{end_of}
 use Rattle.site_model.specs.Standing.{lose}
-use Rattle.image_meaning.specs.Files.{VolumeFiles, files_of, temps_of, lose_files, max_servers, stands, bytes_at, all_shards, standing}
+use Rattle.image_meaning.specs.Files.{VolumeFiles, files_of, temps_of, lose_files, stands, bytes_at, all_shards, standing}
+use Rattle.site_model.specs.Counts.{max_servers}
 use Rattle.image_meaning.specs.Plain.{kept_at, index_home}
 use Rattle.image_meaning.specs.Coded.{ratio_of, volume_info, dat_of, deleted_at, coded_with}
 use Rattle.world_model.specs.Ratios.{data_count, parity_count}

@@ -1,11 +1,12 @@
 -- The files of one volume. What an image says of a volume is said of these alone.
 use Rattle.std.specs.Prelude.{◌≡◌, ℕ, zero, suc, Bool, false, true, is_some, if◌then◌else◌, ◌&&◌, List, [], Option, Some, None, filter, unwrap_or}
 use Rattle.std.specs.List.{list_any, range_with_len}
+use Rattle.site_model.specs.Counts.{max_servers}
 use Rattle.site_model.specs.Disk.{Place, Files, Image}
 use Rattle.site_model.specs.Disk as disk
 use Rattle.file_names.specs.declared.Kind.{Kind}
 use Rattle.file_names.specs.declared.Kind.TheVariants.{Shard, Dat, Idx, Cpd, Cpx}
-use Rattle.file_names.specs.Names.{name_bytes, max_shards}
+use Rattle.file_names.specs.Names.{name_bytes, max_shards, place_of}
 
 -- what stands on a site
 abbrev pub contents : Files → Image
@@ -14,9 +15,6 @@ contents files place = disk.standing (files place)
 -- by server and kind
 abbrev pub VolumeFiles : Type 0
 VolumeFiles = ℕ → Kind → Option (List ℕ)
-
-abbrev pub place_of : ℕ → ℕ → Kind → Bool → Place
-place_of v server kind temp = (server, name_bytes (record { volume = v; kind = kind; temp = temp }))
 
 -- the files of the volume
 abbrev pub files_of : Image → ℕ → VolumeFiles
@@ -35,9 +33,6 @@ abbrev pub SameVolume : ℕ → Image → Image → Type 0
 SameVolume v a b = (server : ℕ) (kind : Kind) → files_of a v server kind ≡ files_of b v server kind
 
 -- ---- servers
-
-abbrev pub max_servers : ℕ
-max_servers = 64
 
 -- the first of n servers from this one on that passes
 unfoldable pub first_from : ℕ → ℕ → (ℕ → Bool) → Option ℕ

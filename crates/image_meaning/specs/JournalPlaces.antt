@@ -5,9 +5,8 @@ use Rattle.site_model.specs.Disk.{Place}
 use Rattle.file_names.specs.declared.Kind.{Kind}
 use Rattle.file_names.specs.declared.Kind.TheVariants.{Dat, Idx, Cpd, Cpx, Shard, Ecx, Ecj, Vif}
 use Rattle.file_names.specs.declared.FileName.{FileName}
-use Rattle.file_names.specs.Names.{name_bytes}
+use Rattle.file_names.specs.Names.{name_bytes, place_of}
 use Rattle.file_names.specs.Laws.Name.{after_dot, name_in_parts, no_dot, parts_apart}
-use Rattle.image_meaning.specs.Files.{place_of}
 use Rattle.image_meaning.specs.Meaning.{max_volumes}
 
 pub journal_apart : (v s t : ℕ) (kind : Kind) → v < max_volumes → kind ≢ Ecj → place_of v s kind false ≢ place_of v t Ecj false

@@ -1,4 +1,4 @@
--- What a volume's files hold, whichever servers are lost.
+-- What a volume's files hold, whichever servers are lost. Its last laws are for the store with coded volumes, to come.
 use Rattle.std.proofs.Common.{◌≡◌, ◌⊎◌, inl, inr, ⊎_elim, ℕ, ◌+◌, ◌*◌, ◌<◌, ◌≤◌, Bool, true, false, cond, List, [], ◌∷◌, ◌++◌, length, Option, Some, None, IsTrue, refl, sym, ◌∙◌, ap, subst, arith}
 use Rattle.std.specs.Prelude.{◌||◌, ◌&&◌, nat_eq, flat_map, unwrap_or, option_map}
 use Rattle.std.specs.Option.{option_map_or}

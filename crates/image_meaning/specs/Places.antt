@@ -5,11 +5,10 @@ use Rattle.std.proofs.lemmas.List.{append-nil}
 use Rattle.file_names.specs.declared.Kind.{Kind}
 use Rattle.file_names.specs.declared.Kind.TheVariants.{Dat, Idx, Cpd, Cpx, Shard, Ecx, Ecj, Vif}
 use Rattle.file_names.specs.declared.FileName.{FileName}
-use Rattle.file_names.specs.Names.{ending, name_bytes}
+use Rattle.file_names.specs.Names.{ending, name_bytes, place_of}
 use Rattle.file_names.specs.Laws.Ending.{dotted}
 use Rattle.file_names.specs.Laws.Name.{after_dot, name_in_parts, no_dot, parts_apart}
 use Rattle.site_model.specs.Disk.{Place}
-use Rattle.image_meaning.specs.Files.{place_of}
 use Rattle.image_meaning.specs.Meaning.{max_volumes}
 
 -- the kind, read from its ending: a shard's alone has five bytes

@@ -1,4 +1,5 @@
 -- Which shards of a volume stand after the commands that were run on it.
+-- What nothing cites yet is for the store with jobs, to come.
 use Rattle.std.proofs.Common.{◌≡◌, ℕ, ◌+◌, ◌<◌, ◌≤◌, Bool, true, false, cond, List, [], ◌∷◌, ◌++◌, Option, Some, None, is_some, refl, sym, ◌∙◌, ap, subst, arith}
 use Rattle.std.specs.Prelude.{◌==◌, count_by, MatchBool}
 use Rattle.std.specs.List.{last_or}

@@ -1,4 +1,4 @@
-// The list of the unfinished jobs, by rising number.
+//! The list of the unfinished jobs, by rising number.
 #![tactic(auto)]
 
 ghost use Rattle.std.specs.Prelude.{◌≡◌, None, Some, map, not, position};

@@ -1,7 +1,7 @@
 -- What a call that takes steps of a plan asks, and what it tells.
 use Rattle.std.specs.Prelude.{◌≡◌, ℕ, ◌*◌, Bool, true, false}
 use Rattle.site_model.specs.Disk.{Disk, Files}
-use Rattle.site_model.specs.Counts.{Counts, Rose, IsLater, TakesCalls}
+use Rattle.site_model.specs.Counts.{Counts, Rose, IsLater, TakesCalls, widest_piece}
 use Rattle.world_model.specs.declared.types.Command.TheVariants.{Decode}
 use Rattle.shard_table.specs.Table.{Row}
 use Rattle.image_meaning.specs.Share.{Share, share_of}
@@ -17,7 +17,7 @@ has_ended Done = true
 
 -- So many steps: at most 64 calls each, none of more than 65,536 bytes. No count falls, and the site keeps its servers.
 pub record TakesSteps (steps servers servers_now : ℕ) (old new : Counts) : Type 0 where
-  pub calls : TakesCalls (64 * steps) 65536 old new
+  pub calls : TakesCalls (64 * steps) widest_piece old new
   pub later : IsLater old new
   pub same_servers : servers_now ≡ servers
   pub says : new.say_faults ≡ old.say_faults

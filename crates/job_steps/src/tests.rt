@@ -1,4 +1,4 @@
-// Steps of a job, over the smallest plan.
+//! Steps of a job, over the smallest plan.
 use crate::{Countdown, Engine, Halt, Slot, Work};
 use job_board::Board;
 use site_mem::MemSite;

@@ -12,13 +12,13 @@ use std::time::{Duration, Instant};
 use std::{env, io};
 use world_model::types::Ratio;
 
-/// The bytes of a piece.
+// The bytes of a piece.
 const SIZE: usize = 65536;
 
-/// How often a call is repeated between two readings of the clock.
+// How often a call is repeated between two readings of the clock.
 const REPEATS: u64 = 200;
 
-/// The shards that are lost: the first, as many as there are parity shards.
+// The shards that are lost: the first, as many as there are parity shards.
 fn lost(ratio: Ratio) -> &'static [u8]
     ensures count { length result.now ≡ parity_count ratio }
     ensures shards { EachIndex result.now
@@ -32,7 +32,7 @@ fn lost(ratio: Ratio) -> &'static [u8]
     }
 }
 
-/// The shards that are read then.
+// The shards that are read then.
 fn kept(ratio: Ratio) -> &'static [u8]
     ensures { AreEnough (data_count ratio) (parity_count ratio) result.now }
 {
@@ -44,7 +44,7 @@ fn kept(ratio: Ratio) -> &'static [u8]
     }
 }
 
-/// Bytes that no compiler can guess.
+// Bytes that no compiler can guess.
 fn fill(bytes: &mut [u8]) {
     let mut state = 88172645463325252u64;
     for byte in bytes.iter_mut() {
@@ -55,7 +55,7 @@ fn fill(bytes: &mut [u8]) {
     }
 }
 
-/// The 64-bit checksum of Fowler, Noll and Vo, in its form 1a.
+// The 64-bit checksum of Fowler, Noll and Vo, in its form 1a.
 fn checksum(bytes: &[u8]) -> u64 {
     let mut sum = 0xcbf29ce484222325u64;
     for byte in bytes {
@@ -64,7 +64,7 @@ fn checksum(bytes: &[u8]) -> u64 {
     sum
 }
 
-/// Prints how many megabytes a second were read, where each call reads so many pieces.
+// Prints how many megabytes a second were read, where each call reads so many pieces.
 fn report(rt: &HostRuntime, call: &str, word: &str, pieces: u8, took: Duration) -> io::Result<()> {
     let bytes = u64::from(pieces) * SIZE as u64 * REPEATS;
     let micros = u64::try_from(took.as_micros()).unwrap_or(u64::MAX);
@@ -88,7 +88,7 @@ fn time_encode(rt: &HostRuntime, ratio: Ratio, pieces: &[u8], parity: &mut [u8])
     )
 }
 
-/// Times all lost shards at once.
+// Times all lost shards at once.
 fn time_restore(rt: &HostRuntime, ratio: Ratio, pieces: &[u8], made: &mut [u8]) -> io::Result<()>
     requires { HaveOneSize (parity_count ratio) made.old (data_count ratio) pieces.now }
 {
@@ -106,7 +106,7 @@ fn time_restore(rt: &HostRuntime, ratio: Ratio, pieces: &[u8], made: &mut [u8]) 
     )
 }
 
-/// Times one lost shard.
+// Times one lost shard.
 fn time_restore_one(rt: &HostRuntime, ratio: Ratio, pieces: &[u8], out: &mut [u8]) -> io::Result<()>
     requires { length pieces.now ≡ data_count ratio * length out.old }
 {
@@ -124,7 +124,7 @@ fn time_restore_one(rt: &HostRuntime, ratio: Ratio, pieces: &[u8], out: &mut [u8
     )
 }
 
-/// Prints what the calls make of the pieces.
+// Prints what the calls make of the pieces.
 fn show(
     rt: &HostRuntime,
     ratio: Ratio,
@@ -144,7 +144,7 @@ fn show(
     println!(rt; "{word} one restored {:016x}", checksum(out))
 }
 
-/// Shows what a ratio makes, and times it in so many rounds.
+// Shows what a ratio makes, and times it in so many rounds.
 fn try_ratio(rt: &HostRuntime, ratio: Ratio, rounds: usize) -> io::Result<()> {
     let mut pieces = buffer(rt, usize::from(ratio.data_count()) * SIZE)?;
     let mut made = buffer(rt, usize::from(ratio.parity_count()) * SIZE)?;
@@ -164,7 +164,7 @@ fn try_ratio(rt: &HostRuntime, ratio: Ratio, rounds: usize) -> io::Result<()> {
     Ok(())
 }
 
-/// Shows a multiple of a piece, and times ten of them.
+// Shows a multiple of a piece, and times ten of them.
 fn try_multiples(rt: &HostRuntime, rounds: usize) -> io::Result<()> {
     let mut piece = buffer(rt, SIZE)?;
     let mut out = buffer(rt, SIZE)?;
@@ -184,7 +184,7 @@ fn try_multiples(rt: &HostRuntime, rounds: usize) -> io::Result<()> {
     Ok(())
 }
 
-/// A buffer of zeros.
+// A buffer of zeros.
 fn buffer(rt: &HostRuntime, size: usize) -> Result<Vec<u8>, AllocError>
     ensures { IfOk result (λ buffer. length buffer.items ≡ size) }
 {

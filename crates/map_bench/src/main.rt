@@ -9,19 +9,19 @@ use std::time::{CpuClock, Duration};
 use std::{env, fs, io};
 use volume_forms::Entry;
 
-/// How many needles are measured.
+// How many needles are measured.
 const MANY: u64 = 1_000_000;
 
-/// How many needles are put without a word.
+// How many needles are put without a word.
 const FEW: u64 = 1000;
 
-/// An odd number, so that its multiples by different turns differ modulo 2^64.
+// An odd number, so that its multiples by different turns differ modulo 2^64.
 const STRIDE: u64 = 0x9e37_79b9_7f4a_7c15;
 
-/// The bytes of a page of memory.
+// The bytes of a page of memory.
 const PAGE: u64 = 4096;
 
-/// The order in which ids come.
+// The order in which ids come.
 #[derive(Clone, Copy)]
 enum Order {
     Rising,

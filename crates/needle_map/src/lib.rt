@@ -10,7 +10,7 @@ use std::collections::{BTreeMap, btree_map};
 use std::marker::Model;
 use volume_forms::Entry;
 
-/// What an entry says beside its id.
+// What an entry says beside its id.
 #[derive(Clone, Copy, Debug)]
 struct Place {
     offset: u32,

@@ -2,7 +2,7 @@
 
 ghost use Rattle.std.specs.Prelude.{◌≡◌, ◌+◌, ◌<◌, ◌≤◌, ◌^◌, length, IfSome, replicate, ◌++◌, vec_len, vec_capacity};
 ghost use Rattle.wire_num.specs.Numbers.{bytes_of};
-ghost use Rattle.world_model.specs.Sizes.{Fits, size_of, text_size, number_size};
+ghost use Rattle.world_model.specs.Sizes.{FitsRecord, size_of_content, text_size, number_size};
 ghost use Rattle.needle_record.specs.Spelling.{body, text_bytes, number_bytes};
 ghost use Rattle.needle_record.specs.Appending.{Appends};
 
@@ -11,7 +11,7 @@ use wire_num::{put_u16, put_u32, put_u40, put_u64};
 use world_model::bytes::Bytes;
 use world_model::types::Content;
 
-/// The longest padding of a record.
+// The longest padding of a record.
 const ZEROS: [u8; 8] = [0; 8];
 
 fn push_bytes(out: &mut Vec<u8>, bytes: &[u8])
@@ -82,7 +82,7 @@ fn push_data(out: &mut Vec<u8>, bytes: &[u8])
     push_bytes(out, bytes);
 }
 
-/// A name or a mime type.
+// A name or a mime type.
 fn push_text(out: &mut Vec<u8>, text: &Option<Bytes>)
     requires fits { IfSome text.now (λ t. length t < 256) }
     requires room { vec_len out.old + text_size 1 text.now ≤ vec_capacity out.old }
@@ -128,9 +128,9 @@ fn push_ttl(out: &mut Vec<u8>, ttl: Option<u16>)
 
 /// The body of a record with this content.
 pub fn push_body(out: &mut Vec<u8>, content: &Content)
-    requires fits { Fits content.now }
-    requires room { vec_len out.old + size_of content.now ≤ vec_capacity out.old }
-    ensures { Appends out.old out.new (size_of content.now) (body content.now) }
+    requires fits { FitsRecord content.now }
+    requires room { vec_len out.old + size_of_content content.now ≤ vec_capacity out.old }
+    ensures { Appends out.old out.new (size_of_content content.now) (body content.now) }
 {
     push_data(out, content.bytes.as_slice());
     push_u8(out, flag_byte(content));

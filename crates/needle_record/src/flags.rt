@@ -1,7 +1,7 @@
 //! The flag byte of a body: which optional parts stand, and flags that are kept unread.
 
 ghost use Rattle.std.specs.Prelude.{◌≡◌};
-ghost use Rattle.world_model.specs.Sizes.{Fits};
+ghost use Rattle.world_model.specs.Sizes.{FitsRecord};
 ghost use Rattle.needle_record.specs.Spelling.{flag_byte, part_bit};
 ghost use Rattle.needle_record.specs.Reading.{has_bit};
 
@@ -27,7 +27,7 @@ pub fn has(flags: u8, bit: u8) -> bool
     flags & bit != 0
 }
 
-/// The bit, where the part stands.
+// The bit, where the part stands.
 fn part_bit<T>(part: &Option<T>, bit: u8) -> u8
     ensures { result ≡ part_bit bit part.now }
 {
@@ -39,7 +39,7 @@ fn part_bit<T>(part: &Option<T>, bit: u8) -> u8
 
 /// The kept flags, and the bits of the parts that stand.
 pub fn flag_byte(content: &Content) -> u8
-    requires { Fits content.now }
+    requires { FitsRecord content.now }
     ensures { result ≡ flag_byte content.now }
 {
     content.flags

@@ -2,7 +2,7 @@
 
 ghost use Rattle.std.specs.Prelude.{◌≡◌, ◌<◌, ◌≤◌, ◌^◌, length, IfSome};
 ghost use Rattle.std.specs.Option.{option_map_or};
-ghost use Rattle.world_model.specs.Sizes.{Fits, size_of, text_size};
+ghost use Rattle.world_model.specs.Sizes.{FitsRecord, size_of_content, text_size};
 ghost use Rattle.needle_record.specs.Spelling.{record_size};
 
 use crate::Record;
@@ -10,7 +10,7 @@ use crate::layout::{MODIFIED_LENGTH, PAIRS_PREFIX, PLAIN_BODY_LENGTH, TEXT_PREFI
 use world_model::bytes::Bytes;
 use world_model::types::Content;
 
-/// A text with its length in `prefix` bytes, where it stands.
+// A text with its length in `prefix` bytes, where it stands.
 fn text_size(prefix: u32, text: &Option<Bytes>) -> u32
     requires short_prefix { prefix ≤ 2 }
     requires short_text { IfSome text.now (λ t. length t < 2 ^ 16) }
@@ -22,7 +22,7 @@ fn text_size(prefix: u32, text: &Option<Bytes>) -> u32
     }
 }
 
-/// A number of `width` bytes, where it stands.
+// A number of `width` bytes, where it stands.
 fn number_size<T>(width: u32, number: &Option<T>) -> u32
     ensures { result ≡ option_map_or (λ _. width) number.now 0 }
 {
@@ -34,8 +34,8 @@ fn number_size<T>(width: u32, number: &Option<T>) -> u32
 
 /// The bytes of the body of a record with this content.
 pub fn content_size(content: &Content) -> u32
-    requires { Fits content.now }
-    ensures { result ≡ size_of content.now }
+    requires { FitsRecord content.now }
+    ensures { result ≡ size_of_content content.now }
 {
     PLAIN_BODY_LENGTH
         + content.bytes.as_slice().len() as u32
@@ -48,7 +48,7 @@ pub fn content_size(content: &Content) -> u32
 
 /// The bytes of the record's body: none, of a deletion.
 pub fn record_size(needle: &Record) -> u32
-    requires { IfSome needle.now.content Fits }
+    requires { IfSome needle.now.content FitsRecord }
     ensures { result ≡ record_size needle.now }
 {
     match &needle.content {

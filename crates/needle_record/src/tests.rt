@@ -1,16 +1,17 @@
+//! Tests of the public calls, by worked rows.
 ghost use Rattle.std.specs.Prelude.{◌≡◌, IfOk, IfSome};
-ghost use Rattle.world_model.specs.Sizes.{Fits};
+ghost use Rattle.world_model.specs.Sizes.{FitsRecord};
 
 use super::*;
 use std::alloc::{AllocError, Global};
 use std::test::Fail;
 use world_model::bytes::Bytes;
 
-/// Cookie 2a, id 1, data "123456789", nothing else.
+// Cookie 2a, id 1, data "123456789", nothing else.
 const PLAIN: &str =
     "0000002a00000000000000010000000e0000000931323334353637383900e30692830000000000000000000000000000";
 
-/// The same data with id 9, flags 80, name "a", mime "b", modified 1, ttl 0301 and pairs "{}".
+// The same data with id 9, flags 80, name "a", mime "b", modified 1, ttl 0301 and pairs "{}".
 const ALL_PARTS: &str =
     "0000002a00000000000000090000001d00000009313233343536373839be01610162000000000103010002\
     7b7de3069283000000000000000000000000000000";
@@ -22,7 +23,7 @@ fn bytes(alloc: Global, text: &[u8]) -> Result<Bytes, AllocError>
 }
 
 fn plain(alloc: Global) -> Result<Record, AllocError>
-    ensures { IfOk result (λ r. IfSome r.content Fits) }
+    ensures { IfOk result (λ r. IfSome r.content FitsRecord) }
 {
     let content = Content {
         bytes: bytes(alloc, b"123456789")?,
@@ -42,7 +43,7 @@ fn plain(alloc: Global) -> Result<Record, AllocError>
 }
 
 fn all_parts(alloc: Global) -> Result<Record, AllocError>
-    ensures { IfOk result (λ r. IfSome r.content Fits) }
+    ensures { IfOk result (λ r. IfSome r.content FitsRecord) }
 {
     let content = Content {
         bytes: bytes(alloc, b"123456789")?,
@@ -61,7 +62,7 @@ fn all_parts(alloc: Global) -> Result<Record, AllocError>
     })
 }
 
-/// What the text in hex is read as, and as how many bytes.
+// What the text in hex is read as, and as how many bytes.
 fn read(alloc: Global, hex: &str) -> Result<Result<(Record, u64), NeedleFault>, Fail> {
     let bytes = hex::decode(alloc, hex)?;
     Ok(read_record(alloc, &bytes))
@@ -132,6 +133,17 @@ fn all_parts_are_read_back(rt: HostRuntime) -> Result<(), Fail> {
         && is_text(&content.mime, b"b")
         && is_text(&content.pairs, b"{}");
     assert!(rt; has_all);
+    Ok(())
+}
+
+#[test]
+fn a_record_is_taken_out_of_longer_bytes(rt: HostRuntime) -> Result<(), Fail> {
+    let alloc = rt.alloc();
+    let bytes = hex::decode(alloc, format!(in alloc; "{PLAIN}{ALL_PARTS}")?.as_str())?;
+    let (record, length) = take_record(alloc, bytes).map_err(|_| "unread")?;
+    let content = record.content.ok_or("a content")?;
+    assert_eq!(rt; length, 48);
+    assert_eq!(rt; content.bytes.as_slice(), b"123456789".as_slice());
     Ok(())
 }
 

@@ -3,17 +3,18 @@
 ghost use Rattle.std.specs.Prelude.{◌≡◌, ◌+◌, ◌<◌, ◌≤◌, ◌++◌, length, take, drop, Option, IfSome, OnOk, OnErr, vec_len, vec_capacity};
 ghost use Rattle.std.specs.Option.{option_map_or};
 ghost use Rattle.wire_num.specs.Numbers.{record_length};
-ghost use Rattle.world_model.specs.Sizes.{Fits, size_of};
+ghost use Rattle.world_model.specs.Sizes.{FitsRecord, size_of_content};
 ghost use Rattle.needle_record.specs.Spelling.{body_of, canonical, data_of, deletion_of, length_of_record, record_size};
 ghost use Rattle.needle_record.specs.Appending.{Appends};
 
 use crate::Record;
 use crate::appending::{push_body, push_u32, push_u64, push_zeros};
-use crate::layout::{DELETION_LENGTH, ID_AT};
+use crate::layout::ID_AT;
 use crate::sizes::record_size;
 use crc32c::crc;
 use std::alloc::AllocError;
 use wire_num::{padding, put_u64, record_length};
+use world_model::limits::DELETION_LENGTH;
 use world_model::types::Content;
 
 /// Writes the deletion of the id, with cookie 0 and append time 0, into the 32 bytes from `at`.
@@ -22,15 +23,15 @@ pub fn put_deletion(out: &mut [u8], at: usize, id: u64)
     ensures { out.new ≡ take at out.old ++ (canonical (deletion_of id) ++ drop (at + 32) out.old) }
 {
     // Beside the id all is zero: cookie, size, the checksum of no data, append time and padding.
-    let mut record = [0; DELETION_LENGTH];
+    let mut record = [0; DELETION_LENGTH as usize];
     put_u64(&mut record, ID_AT, id);
-    out[at..at + DELETION_LENGTH].copy_from_slice(&record);
+    out[at..at + DELETION_LENGTH as usize].copy_from_slice(&record);
 }
 
 fn push_content(out: &mut Vec<u8>, content: &Option<Content>)
-    requires fits { IfSome content.now Fits }
-    requires room { vec_len out.old + option_map_or size_of content.now 0 ≤ vec_capacity out.old }
-    ensures { Appends out.old out.new (option_map_or size_of content.now 0) (body_of content.now) }
+    requires fits { IfSome content.now FitsRecord }
+    requires room { vec_len out.old + option_map_or size_of_content content.now 0 ≤ vec_capacity out.old }
+    ensures { Appends out.old out.new (option_map_or size_of_content content.now 0) (body_of content.now) }
 {
     if let Some(content) = content {
         push_body(out, content);
@@ -47,7 +48,7 @@ fn data_of(content: &Option<Content>) -> &[u8]
 }
 
 fn push_record(out: &mut Vec<u8>, needle: &Record, size: u32)
-    requires fits { IfSome needle.now.content Fits }
+    requires fits { IfSome needle.now.content FitsRecord }
     requires size { size ≡ record_size needle.now }
     requires room { vec_len out.old + record_length size ≤ vec_capacity out.old }
     ensures { Appends out.old out.new (record_length size) (canonical needle.now) }
@@ -63,7 +64,7 @@ fn push_record(out: &mut Vec<u8>, needle: &Record, size: u32)
 
 /// Appends the record, with the plain checksum and zeros as padding.
 pub fn write_record(needle: &Record, out: &mut Vec<u8>) -> Result<(), AllocError>
-    requires { IfSome needle.now.content Fits }
+    requires { IfSome needle.now.content FitsRecord }
     ensures ok { OnOk result (out.new.items ≡ out.old.items ++ canonical needle.now) }
     ensures err { OnErr result (out.new.items ≡ out.old.items) }
 

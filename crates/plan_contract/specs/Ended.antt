@@ -1,4 +1,4 @@
--- What stands at a plan's end, as the store asks for it.
+-- What stands at a plan's end, as the store asks for it. For the store with jobs, to come.
 use Rattle.std.proofs.Common.{◌≡◌, ℕ, ◌<◌, ◌≤◌, true, List, ◌++◌, refl, sym, ◌∙◌, ap, subst}
 use Rattle.world_model.specs.declared.types.Command.{Command}
 use Rattle.world_model.specs.declared.types.Command.TheVariants.{Encode, Decode}

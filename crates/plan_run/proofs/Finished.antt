@@ -3,13 +3,13 @@
 use Rattle.std.proofs.Common.{◌≡◌, ◌≢◌, ◌⊎◌, ℕ, ◌+◌, ◌<◌, ◌^◌, List, length, None, Some, sym, ◌∙◌, ap, subst}
 use Rattle.std.specs.Prelude.{Bool, true, false, get_or, slice_get, slice_set}
 use Rattle.std.proofs.lemmas.Option.{get_or_from_slice_get}
+use Rattle.image_meaning.specs.Laws.Options.{some_is}
 use Rattle.site_model.specs.Disk.{Place, Disk, Files, Appends, Syncs, Renames, IsRenamed, grown, synced}
 use Rattle.whole_file.specs.Whole as whole
 use Rattle.whole_file.specs.Whole.{WritesWhole, IsWritten}
 use Rattle.world_model.specs.World.{Volume}
-use Rattle.file_names.specs.Names.{name_bytes}
+use Rattle.file_names.specs.Names.{name_bytes, place_of}
 use Rattle.shard_table.specs.Table.{Row}
-use Rattle.image_meaning.specs.Files.{place_of}
 use Rattle.image_meaning.specs.Laws.Copy.{temp_apart}
 use Rattle.image_meaning.specs.Share.{Share, share_of}
 use Rattle.plan_steps.specs.declared.plan.Stage.{Stage}
@@ -21,9 +21,6 @@ use Rattle.plan_steps.specs.Progressing.{Running, IsNextPlace, FitsProgress}
 use Rattle.plan_steps.specs.Laws.Progress.{registering_keeps, registering_fits, removing_keeps, removing_fits, syncing_keeps, syncing_fits, growing_keeps, growing_fits, putting_keeps, putting_fits}
 use Rattle.plan_run.specs.Finishing.{IsNamedFile, Keeps, Synced, Registers, Registered, Clears, Cleared}
 use Rattle.plan_run.specs.Writing.{Grown, Puts, Put}
-
-some_is : {A : Type 0} (x y : A) → Some x ≡ Some y → x ≡ y
-some_is x y e = cc
 
 -- what was read at a place of the list is the file there
 pub file_is : (states : List FileState) (j : ℕ) (x s : FileState) → x ≡ get_or states j x → slice_get states j ≡ Some s → x ≡ s

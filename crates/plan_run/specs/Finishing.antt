@@ -1,10 +1,10 @@
 -- What it takes that a file of a plan is finished or goes, and what that leaves.
-use Rattle.std.specs.Prelude.{◌≡◌, ℕ, ◌<◌, Bool, true, false, List, length, slice_get, slice_set, Some, IsSome}
+use Rattle.std.specs.Prelude.{◌≡◌, ℕ, ◌<◌, Bool, true, false, List, length, slice_get, slice_set, Some, IsSome, Result, OnOk}
 use Rattle.site_model.specs.Disk.{Files, Disk}
+use Rattle.site_model.specs.declared.error.DeviceFault.{DeviceFault}
 use Rattle.world_model.specs.World.{Volume}
-use Rattle.file_names.specs.Names.{name_bytes}
+use Rattle.file_names.specs.Names.{name_bytes, place_of}
 use Rattle.shard_table.specs.Table.{Row}
-use Rattle.image_meaning.specs.Files.{place_of}
 use Rattle.image_meaning.specs.Share.{Share, share_of}
 use Rattle.plan_steps.specs.declared.plan.Plan.{Plan}
 use Rattle.plan_steps.specs.declared.plan.Progress.{Progress}
@@ -40,6 +40,11 @@ TempStands r j files = (s : FileState) → slice_get r.states j ≡ Some s → I
 -- From files that fit, whatever the plan began with, and wherever the table has the shards: this holds of the file.
 abbrev pub FromFit : Running → ℕ → Files → (Volume → Forms → Row → Share → FileState → Type 0) → Type 0
 FromFit r j files P = (w : Volume) (f : Forms) (row : Row) (start : Share) (s : FileState) → FitsProgress w f r row start (share_of files r.plan.volume) → slice_get r.states j ≡ Some s → P w f row start s
+
+-- this holds at every stop, and where the call is Ok this of what it leaves
+pub record Does {A : Type 0} (keeps fits : Type 0) (result : Result A DeviceFault) : Type 0 where
+  pub kept : keeps
+  pub fitting : OnOk result fits
 
 -- a call on a temporary file keeps the volume at every stop
 abbrev pub Keeps : Running → ℕ → Disk → Disk → Type 0

@@ -1,9 +1,8 @@
-// The calls of a site by which a file of a plan is finished or goes.
-ghost use Rattle.std.specs.Prelude.{◌≡◌, IsTrue, OnOk, OnErr};
-ghost use Rattle.site_model.specs.Counts.{TakesCalls};
+//! The calls of a site by which a file of a plan is finished or goes.
+ghost use Rattle.std.specs.Prelude.{◌≡◌, IsTrue, MatchResult};
 ghost use Rattle.plan_steps.specs.Progressing.{running};
 ghost use Rattle.plan_run.specs.Faults.{AtFile, IsBlamed, IsBlamedForWriting};
-ghost use Rattle.plan_run.specs.Finishing.{IsNamedFile, TempStands, Keeps, Synced, Tells, at_stage};
+ghost use Rattle.plan_run.specs.Finishing.{IsNamedFile, TempStands, Does, Keeps, Synced, Tells, at_stage};
 ghost use Rattle.plan_run.specs.Finishing.{Registers, Registered, Clears, Cleared};
 
 use plan_steps::{Plan, Progress, Stage};
@@ -22,16 +21,14 @@ pub fn sync_file<T: Site>(
     requires file { IsNamedFile plan.now.volume (T.servers site.old)
         progress.old.files.items at temp.now name.now }
     requires stands { IsTrue T.tells → TempStands (running plan.now progress.old) at (T.disk site.old).files }
-    ensures keeps { IsTrue T.tells
-        → Keeps (running plan.now progress.old) at (T.disk site.old) (T.disk site.new) }
-    ensures fits { OnOk result (IsTrue T.tells
-        → Synced (running plan.now progress.old) at
-        (T.disk site.old) (T.disk site.new) (running plan.now progress.new)) }
-    ensures state { OnOk result (Tells at (at_stage Stage.Synced) progress.old progress.new) }
-    ensures failed { OnErr result (progress.new ≡ progress.old) }
-    ensures calls { TakesCalls 1 0 (T.counts site.old) (T.counts site.new) }
+    ensures effect { IsTrue T.tells
+        → Does (Keeps (running plan.now progress.old) at (T.disk site.old) (T.disk site.new))
+        (Synced (running plan.now progress.old) at (T.disk site.old) (T.disk site.new)
+        (running plan.now progress.new)) result }
+    ensures state { MatchResult result (λ _. Tells at (at_stage Stage.Synced) progress.old progress.new)
+        (λ _. progress.new ≡ progress.old) }
     ensures runs { AtFile progress.old.files.items at
-        (λ server. IsBlamedForWriting T.counts T.servers server result site.old site.new) }
+        (λ server. IsBlamedForWriting T.counts T.servers server 1 0 result site.old site.new) }
 {
     let server = progress.files[at].server;
     match site.sync(server, temp) {
@@ -55,16 +52,14 @@ pub fn register_file<T: Site>(
     requires file { IsNamedFile plan.now.volume (T.servers site.old)
         progress.old.files.items at temp.now name.now }
     requires stands { IsTrue T.tells → TempStands (running plan.now progress.old) at (T.disk site.old).files }
-    ensures keeps { IsTrue T.tells
-        → Registers (running plan.now progress.old) at (T.disk site.old) (T.disk site.new) }
-    ensures fits { OnOk result (IsTrue T.tells
-        → Registered (running plan.now progress.old) at
-        (T.disk site.old) (T.disk site.new) (running plan.now progress.new)) }
-    ensures state { OnOk result (Tells at (at_stage Stage.Registered) progress.old progress.new) }
-    ensures failed { OnErr result (progress.new ≡ progress.old) }
-    ensures calls { TakesCalls 1 0 (T.counts site.old) (T.counts site.new) }
+    ensures effect { IsTrue T.tells
+        → Does (Registers (running plan.now progress.old) at (T.disk site.old) (T.disk site.new))
+        (Registered (running plan.now progress.old) at (T.disk site.old) (T.disk site.new)
+        (running plan.now progress.new)) result }
+    ensures state { MatchResult result (λ _. Tells at (at_stage Stage.Registered) progress.old progress.new)
+        (λ _. progress.new ≡ progress.old) }
     ensures runs { AtFile progress.old.files.items at
-        (λ server. IsBlamedForWriting T.counts T.servers server result site.old site.new) }
+        (λ server. IsBlamedForWriting T.counts T.servers server 1 0 result site.old site.new) }
 {
     let server = progress.files[at].server;
     match site.rename(server, temp, name) {
@@ -87,16 +82,14 @@ pub fn clear_file<T: Site>(
 ) -> Result<(), DeviceFault>
     requires file { IsNamedFile plan.now.volume (T.servers site.old)
         progress.old.files.items at temp.now name.now }
-    ensures keeps { IsTrue T.tells
-        → Clears (running plan.now progress.old) at (T.disk site.old) (T.disk site.new) }
-    ensures fits { OnOk result (IsTrue T.tells
-        → Cleared (running plan.now progress.old) at
-        (T.disk site.old) (T.disk site.new) (running plan.now progress.new)) }
-    ensures state { OnOk result (Tells at (at_stage Stage.Gone) progress.old progress.new) }
-    ensures failed { OnErr result (progress.new ≡ progress.old) }
-    ensures calls { TakesCalls 2 0 (T.counts site.old) (T.counts site.new) }
+    ensures effect { IsTrue T.tells
+        → Does (Clears (running plan.now progress.old) at (T.disk site.old) (T.disk site.new))
+        (Cleared (running plan.now progress.old) at (T.disk site.old) (T.disk site.new)
+        (running plan.now progress.new)) result }
+    ensures state { MatchResult result (λ _. Tells at (at_stage Stage.Gone) progress.old progress.new)
+        (λ _. progress.new ≡ progress.old) }
     ensures runs { AtFile progress.old.files.items at
-        (λ server. IsBlamed T.counts T.servers server result site.old site.new) }
+        (λ server. IsBlamed T.counts T.servers server 2 0 result site.old site.new) }
 {
     let server = progress.files[at].server;
     match clear(site, server, name) {

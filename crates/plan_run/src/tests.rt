@@ -1,4 +1,4 @@
-// Calls on the second file of a plan, at the second of two servers in memory.
+//! Calls on the second file of a plan, at the second of two servers in memory.
 ghost use Rattle.std.specs.Prelude.{◌≡◌, true, false, IsTrue, IfOk, string_bytes};
 ghost use Rattle.site_mem.specs.Site.{counts_at, disk_at};
 ghost use Rattle.file_names.specs.declared.Kind.TheVariants.{Ecx};
@@ -22,10 +22,10 @@ const VOLUME: u32 = 7;
 
 const SERVERS: u32 = 2;
 
-/// The server of the file.
+// The server of the file.
 const SERVER: u32 = 1;
 
-/// The place of the file in the list.
+// The place of the file in the list.
 const AT: usize = 1;
 
 const TEMP: &str = "7.ecx.tmp";
@@ -36,7 +36,7 @@ const BYTES: [u8; 5] = [1, 2, 3, 4, 5];
 
 const OTHERS: [u8; 2] = [9, 8];
 
-/// The file before it in the list.
+// The file before it in the list.
 const FIRST: FileState = FileState {
     server: 0,
     kind: Kind::Vif,
@@ -84,7 +84,7 @@ fn spelled(alloc: Global, temp: bool) -> Result<String, AllocError>
     )
 }
 
-/// A call on the file.
+// A call on the file.
 #[derive(Clone, Copy, Debug)]
 enum Call<'a> {
     Grow(&'a [u8]),
@@ -94,7 +94,7 @@ enum Call<'a> {
     Clear,
 }
 
-/// A plan under way, with the names of the file.
+// A plan under way, with the names of the file.
 #[derive(Drop)]
 struct Run {
     site: MemSite,
@@ -129,7 +129,7 @@ impl Run {
         })
     }
 
-    /// With a final file of other bytes, and with the bytes as a temporary one, which one call appends.
+    // With a final file of other bytes, and with the bytes as a temporary one, which one call appends.
     fn with_both(alloc: Global) -> Result<Run, Fail> {
         let mut run = Run::new(alloc, 5, Stage::Writing)?;
         run.site.add_file(SERVER, NAME, &OTHERS)?;
@@ -137,7 +137,7 @@ impl Run {
         Ok(run)
     }
 
-    /// Whether the second file of the list is the one that is named.
+    // Whether the second file of the list is the one that is named.
     fn has_file(&self) -> bool
         ensures { IsTrue result → IsNamedFile self.now.plan.volume self.now.site.servers
             self.now.progress.files.items 1 (string_bytes self.now.temp) (string_bytes self.now.name) }
@@ -148,7 +148,7 @@ impl Run {
         }
     }
 
-    /// Whether it stands as a temporary one.
+    // Whether it stands as a temporary one.
     fn has_temp(&self) -> bool
         ensures { IsTrue result → TempStands (running self.now.plan self.now.progress) 1
             (disk_at self.now.site).files }
@@ -160,7 +160,7 @@ impl Run {
         }
     }
 
-    /// Whether so many bytes more can be counted.
+    // Whether so many bytes more can be counted.
     fn has_room(&self, more: usize) -> bool
         ensures { IsTrue result → HasRoom self.now.progress.files.items 1 more }
     {
@@ -234,7 +234,7 @@ impl Run {
         }
     }
 
-    /// Sees the list, with this state of the file.
+    // Sees the list, with this state of the file.
     fn see(&self, rt: &impl Abort, length: u64, stage: Stage) {
         let file = FileState {
             server: SERVER,
@@ -247,7 +247,7 @@ impl Run {
     }
 }
 
-/// Sees the bytes under the temporary name and under the final one.
+// Sees the bytes under the temporary name and under the final one.
 fn see_files(rt: &impl Abort, site: &MemSite, temp: Option<&[u8]>, last: Option<&[u8]>) {
     assert_eq!(rt; site.file(SERVER, TEMP), temp);
     assert_eq!(rt; site.file(SERVER, NAME), last);

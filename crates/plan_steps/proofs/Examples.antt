@@ -3,6 +3,7 @@ use Rattle.std.proofs.Common.{◌≡◌, ◌≢◌, ◌⊎◌, inl, inr, ⊎_eli
 use Rattle.std.specs.Prelude.{◌==◌, ◌&&◌, filter, flat_map, if◌then◌else◌, option_map}
 use Rattle.std.specs.List.{list_any, range_with_len}
 use Rattle.std.proofs.lemmas.Bool.{cases_eq, ne_eqb}
+use Rattle.image_meaning.specs.Laws.Options.{some_is}
 use mathlib.Core.Bool.{true≢false}
 use Rattle.site_model.specs.Disk.{File, IsFirm, Disk}
 use Rattle.site_model.specs.Disk as disk
@@ -16,7 +17,8 @@ use Rattle.file_names.specs.Names.{IsKind, max_shards}
 use Rattle.volume_forms.specs.Forms.{entry_bytes, has_super}
 use Rattle.needle_record.specs.Records.{records}
 use Rattle.shard_table.specs.Table.{Row}
-use Rattle.image_meaning.specs.Files.{VolumeFiles, max_servers, all_servers}
+use Rattle.image_meaning.specs.Files.{VolumeFiles, all_servers}
+use Rattle.site_model.specs.Counts.{max_servers}
 use Rattle.image_meaning.specs.Plain.{IsExact}
 use Rattle.image_meaning.specs.Laws.Plain.{IsAlone}
 use Rattle.image_meaning.specs.Sound.{Stands}
@@ -26,7 +28,7 @@ use Rattle.image_meaning.specs.Parts.{Parts}
 use Rattle.image_meaning.specs.Share.{Share, share_of, finals, temps, IsFirmShare}
 use Rattle.plan_steps.specs.declared.plan.Plan.{Plan}
 use Rattle.plan_steps.specs.declared.plan.FileState.{FileState}
-use Rattle.plan_steps.specs.Kept.{Forms, AreForms, IsKept}
+use Rattle.plan_steps.specs.Kept.{Forms, AreForms, HasAForm}
 use Rattle.plan_steps.specs.Laws.Kept.{kept_none_made}
 use Rattle.plan_steps.specs.Planned.{is_encode}
 use Rattle.plan_steps.specs.Fitting.{AreStates}
@@ -36,9 +38,6 @@ use Rattle.plan_steps.specs.Runs.{StepKeeps}
 use Rattle.plan_steps.specs.Order.{Names, names_of}
 use Rattle.plan_steps.specs.Lists.{is_target, shard_names, encode_names, list_by, list_of}
 use Rattle.plan_steps.specs.Progressing.{Running, FitsProgress}
-
-some_is : {A : Type 0} (x y : A) → Some x ≡ Some y → x ≡ y
-some_is x y e = cc
 
 -- ---- one start, two data files
 
@@ -121,7 +120,7 @@ pending_begins r apart initial w f row start below forms begins listed names no_
 -- ---- an index that a vacuum made
 
 -- With it no plan keeps the files: the named index would go, and an index still stand.
-made_index : (f : Forms) (files : VolumeFiles) (server : ℕ) → IsKept f files → Stands files server Cpx → ⊥
+made_index : (f : Forms) (files : VolumeFiles) (server : ℕ) → HasAForm f files → Stands files server Cpx → ⊥
 made_index f files server kept st = true≢false (sym st.1 ∙ ap is_some (kept_none_made f files kept server st.0))
 
 -- ---- the list of an encode over four servers

@@ -12,7 +12,8 @@ use Rattle.file_names.specs.Names.{IsKind, max_shards}
 use Rattle.volume_forms.specs.Forms.{has_super}
 use Rattle.needle_record.specs.Records.{Placed, records}
 use Rattle.shard_table.specs.Table.{Row, place_in}
-use Rattle.image_meaning.specs.Files.{VolumeFiles, max_servers, all_servers, has_index, stands, lowest}
+use Rattle.image_meaning.specs.Files.{VolumeFiles, all_servers, has_index, stands, lowest}
+use Rattle.site_model.specs.Counts.{max_servers}
 use Rattle.image_meaning.specs.Plain.{IsExact, index_home}
 use Rattle.image_meaning.specs.Coded.{dat_of}
 use Rattle.image_meaning.specs.Sound.{Stands}
@@ -23,7 +24,7 @@ use Rattle.image_meaning.specs.Laws.Servers.{lowest-some}
 use Rattle.image_meaning.specs.Laws.Views.{index_named}
 use Rattle.image_meaning.specs.Share.{Share, finals, temps}
 use Rattle.plan_steps.specs.declared.plan.Plan.{Plan}
-use Rattle.plan_steps.specs.Kept.{Forms, IsKept, IsKeptCoded}
+use Rattle.plan_steps.specs.Kept.{Forms, HasAForm, IsKeptCoded}
 use Rattle.plan_steps.specs.Laws.Kept.{coded_where}
 use Rattle.plan_steps.specs.Planned.{deletions, joined, joined_index, held, placed, is_at, is_found, is_found_coded}
 use Rattle.plan_steps.specs.Legal.{IsFound, IsNew, BeginsPlan}

@@ -16,7 +16,8 @@ use Rattle.file_names.specs.Names.{IsKind, max_shards}
 use Rattle.stripe_layout.specs.declared.Info.{Info}
 use Rattle.stripe_layout.specs.Stripes.{shards_in_all}
 use Rattle.shard_table.specs.Table.{Row, place_in}
-use Rattle.image_meaning.specs.Files.{VolumeFiles, max_servers, all_servers, has_index, stands, bytes_at, is_holder, shard_home}
+use Rattle.image_meaning.specs.Files.{VolumeFiles, all_servers, has_index, stands, bytes_at, is_holder, shard_home}
+use Rattle.site_model.specs.Counts.{max_servers}
 use Rattle.image_meaning.specs.Plain.{index_home}
 use Rattle.image_meaning.specs.Coded.{deleted_at, ratio_of}
 use Rattle.image_meaning.specs.Sound.{Stands, IsHolder}

@@ -3,12 +3,12 @@ use Rattle.std.specs.Prelude.{◌≡◌, ℕ, ◌<◌, ◌≤◌, Bool, true, fa
 use Rattle.site_model.specs.Disk.{File, firm_file}
 use Rattle.file_names.specs.declared.Kind.{Kind}
 use Rattle.file_names.specs.Names.{IsKind}
-use Rattle.image_meaning.specs.Files.{max_servers}
+use Rattle.site_model.specs.Counts.{max_servers}
 use Rattle.image_meaning.specs.Share.{Share, finals}
 use Rattle.plan_steps.specs.declared.plan.Stage.{Stage}
 use Rattle.plan_steps.specs.declared.plan.Stage.TheVariants.{Absent, Writing, Synced, Registered, Gone}
 use Rattle.plan_steps.specs.declared.plan.FileState.{FileState}
-use Rattle.plan_steps.specs.Kept.{Forms, IsKept}
+use Rattle.plan_steps.specs.Kept.{Forms, HasAForm}
 
 -- a front of so many bytes of the file that is given
 pub record IsFront (n : ℕ) (given file : Option File) : Type 0 where
@@ -54,4 +54,4 @@ pub record FitsStates (f : Forms) (given : ℕ → Kind → Option File) (start 
   pub each : (j : ℕ) (s : FileState) → slice_get states j ≡ Some s → StandsAt given now s
   pub others : (server : ℕ) (kind : Kind) → IsOther states server kind → now server kind false ≡ start server kind false
   pub temps : (server : ℕ) (kind : Kind) → server < max_servers → IsKind kind → IsOther states server kind → now server kind true ≡ None
-  pub kept : IsKept f (finals now)
+  pub kept : HasAForm f (finals now)

@@ -5,7 +5,8 @@ use Rattle.world_model.specs.declared.types.Mode.TheVariants as mode
 use Rattle.file_names.specs.declared.Kind.TheVariants.{Cpx}
 use Rattle.volume_forms.specs.Forms.{has_super}
 use Rattle.needle_record.specs.Records.{Placed, fold_records}
-use Rattle.image_meaning.specs.Files.{VolumeFiles, max_servers, index_bytes, dat_bytes}
+use Rattle.image_meaning.specs.Files.{VolumeFiles, index_bytes, dat_bytes}
+use Rattle.site_model.specs.Counts.{max_servers}
 use Rattle.image_meaning.specs.Plain.{index_home, kept_at, FollowsRecords}
 use Rattle.image_meaning.specs.Coded.{coded_with}
 use Rattle.image_meaning.specs.Sound.{HasIndex}
@@ -27,7 +28,7 @@ abbrev pub IsSameVolume : Volume → Volume → Type 0
 IsSameVolume w u = (u.used ≡ w.used) × (u.needles ≡ w.needles)
 
 -- what stands beside an index: these records are kept, and the two files meet the rules
-pub record IsPlainAt (kept : List Placed) (files : VolumeFiles) (server : ℕ) : Type 0 where
+pub record StandsPlainAt (kept : List Placed) (files : VolumeFiles) (server : ℕ) : Type 0 where
   pub has : kept_at files server ≡ kept
   pub follows : FollowsRecords (dat_bytes files server) (index_bytes files server)
   pub super : IsTrue (has_super (dat_bytes files server))
@@ -40,7 +41,7 @@ HasNoneMade files = (server : ℕ) → server < max_servers → files server Cpx
 pub record IsKeptPlain (kept : List Placed) (files : VolumeFiles) : Type 0 where
   pub some_index : IsSome (index_home files)
   pub none_made : HasNoneMade files
-  pub each : (server : ℕ) → HasIndex files server → IsPlainAt kept files server
+  pub each : (server : ℕ) → HasIndex files server → StandsPlainAt kept files server
 
 -- ---- either form
 
@@ -59,5 +60,5 @@ pub record AreForms (w : Volume) (f : Forms) : Type 0 where
   pub parts : AreSoundParts f.parts
 
 -- The files have one of the two forms.
-abbrev pub IsKept : Forms → VolumeFiles → Type 0
-IsKept f files = ((f.changes ≡ true) × IsKeptPlain f.kept files) ⊎ IsKeptCoded f.parts files
+abbrev pub HasAForm : Forms → VolumeFiles → Type 0
+HasAForm f files = ((f.changes ≡ true) × IsKeptPlain f.kept files) ⊎ IsKeptCoded f.parts files

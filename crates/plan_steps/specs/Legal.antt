@@ -10,7 +10,8 @@ use Rattle.stripe_layout.specs.Stripes.{shards_in_all}
 use Rattle.shard_table.specs.Table.{Row, place_in}
 use Rattle.volume_forms.specs.Forms.{has_super, entries, entry_bytes}
 use Rattle.wire_num.specs.Pairs.{journal_bytes}
-use Rattle.image_meaning.specs.Files.{VolumeFiles, max_servers, stands, bytes_at, lowest}
+use Rattle.image_meaning.specs.Files.{VolumeFiles, stands, bytes_at, lowest}
+use Rattle.site_model.specs.Counts.{max_servers}
 use Rattle.image_meaning.specs.Plain.{IsExact}
 use Rattle.image_meaning.specs.Sound.{Stands}
 use Rattle.image_meaning.specs.Ends.{changes_form}
@@ -20,7 +21,7 @@ use Rattle.plan_steps.specs.declared.plan.Plan.{Plan}
 use Rattle.plan_steps.specs.declared.plan.Stage.{Stage}
 use Rattle.plan_steps.specs.declared.plan.Stage.TheVariants.{Registered}
 use Rattle.plan_steps.specs.declared.plan.FileState.{FileState}
-use Rattle.plan_steps.specs.Kept.{Forms, IsKept}
+use Rattle.plan_steps.specs.Kept.{Forms, HasAForm}
 use Rattle.plan_steps.specs.Planned.{joined, joined_index, held, is_encode, is_found}
 use Rattle.plan_steps.specs.Fitting.{IsOther}
 
@@ -64,7 +65,7 @@ pub record KeepsJoined (f : Forms) : Type 0 where
 -- The plan tells of the volume as it stood, in one of the plan's forms.
 pub record BeginsPlan (f : Forms) (plan : Plan) (start : VolumeFiles) : Type 0 where
   pub changes : f.changes ≡ changes_form plan.command
-  pub kept : IsKept f start
+  pub kept : HasAForm f start
   pub tells : TellsParts f.parts plan start
   pub finds : FindsFiles f.parts plan start
   pub read_back : AreReadBack f.parts

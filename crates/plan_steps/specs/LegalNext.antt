@@ -3,6 +3,7 @@ use Rattle.std.proofs.Common.{◌≡◌, ◌≢◌, ◌⊎◌, inl, inr, ⊎_eli
 use Rattle.std.specs.Prelude.{◌-◌, ◌&&◌, ◌||◌, ◌==◌, nat_lt, if◌then◌else◌, slice_get, IfSome, IsTrue}
 use Rattle.std.specs.List.{list_any, position, position_or_len}
 use Rattle.std.proofs.lemmas.Bool.{and_parts, and_from, eq-eqb, lt-ltb, cases_lt, false≢true}
+use Rattle.image_meaning.specs.Laws.Options.{none_some, some_is}
 use Rattle.world_model.specs.declared.types.Command.{Command}
 use Rattle.world_model.specs.declared.types.Command.TheVariants.{Encode, Rebuild, Balance, Decode}
 use Rattle.world_model.specs.declared.types.Ratio.{Ratio}
@@ -31,18 +32,12 @@ use Rattle.plan_steps.specs.Plans.{IsPlan}
 use Rattle.plan_steps.specs.Laws.List.{list_waits, list_index_behind, turn_registers, turn_removes}
 use Rattle.plan_steps.specs.Members.{at_has, has_any, any_has}
 use Rattle.plan_steps.specs.Progressing.{Running, running, IsOnItsWay}
-use Rattle.plan_steps.specs.Walk.{same_kind, is_file, has_file, is_finished, is_open, first_open, place_of, is_last_stage}
+use Rattle.plan_steps.specs.Walk.{same_kind, is_file, has_file, is_finished, is_open, first_open, position_of, is_last_stage}
 use Rattle.plan_steps.specs.Laws.Walk.{place_cases, file_is, is_this, same_kind-is, has_file-is}
 use Rattle.plan_steps.specs.May.{has_some_shard, may_register, may_remove}
 use Rattle.plan_steps.specs.Laws.MayBack.{no_shard-is, may_register_is, may_remove_is}
 use Rattle.plan_steps.specs.Next.{make_in_rows, make_step, join_in_rows, join_step, large_end, data_step, is_made, mend_step, shard_step, shard_source, copy_index, index_step, piece_step, is_whole, going_step, coming_step, file_step, file_at, is_behind, is_synced, is_data, if_behind, turn_of, step_at, next_step}
-use Rattle.plan_steps.specs.Legality.{is_make, is_join, is_shard, is_made_kind, entries_go_on, is_behind_data, goes_on, goes_on_behind, is_in_order, is_writing, is_complete_as, is_complete_file, is_synced_file, is_coded_kind, is_legal, IsLegalNext}
-
-some_is : {A : Type 0} (x y : A) → Some x ≡ Some y → x ≡ y
-some_is x y e = cc
-
-none_some : {A : Type 0} {x : A} → None ≡ Some x → ⊥
-none_some e = cc
+use Rattle.plan_steps.specs.Legality.{is_make, is_join, is_shard, is_made_kind, entries_go_on, is_behind_data, goes_on, goes_on_behind, is_in_order, is_writing, is_complete_as, is_complete_file, is_synced_file, is_legal, IsLegalNext}
 
 -- ---- the first that passes
 
@@ -351,7 +346,7 @@ module _ (r : Running) (row : Row) (servers : ℕ) (is : IsPlan r.plan servers) 
         subst Legal (ap (λ b. if b then going_step u.server u.kind else coming_step plan r.place u u.stage) (sym u_new))
         (comes_behind m u there u.stage refl behind (subst (λ kind. Legal (piece_step plan r.place u.server u.length kind)) (sym e) (index_piece m u there behind e decode)))
 
-    taken : (b : Bool) → (is_data s.kind && is_synced s.stage) ≡ b → Legal (file_step plan r.place (if b then if_behind (file_at states (place_of s.server Idx states)) s else s))
+    taken : (b : Bool) → (is_data s.kind && is_synced s.stage) ≡ b → Legal (file_step plan r.place (if b then if_behind (file_at states (position_of s.server Idx states)) s else s))
     taken false e = itself k s at turn (by_bool (is_found plan plan.command s.server s.kind))
     taken true e = ⊎_elim
         (λ found.

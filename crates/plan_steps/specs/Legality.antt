@@ -5,7 +5,7 @@ use Rattle.world_model.specs.declared.types.Command.{Command}
 use Rattle.world_model.specs.declared.types.Command.TheVariants.{Encode, Rebuild, Balance, Decode}
 use Rattle.file_names.specs.declared.Kind.{Kind}
 use Rattle.file_names.specs.declared.Kind.TheVariants.{Dat, Idx, Cpd, Cpx, Shard, Ecx, Ecj, Vif}
-use Rattle.file_names.specs.Names.{max_shards}
+use Rattle.file_names.specs.Names.{max_shards, is_kind, is_coded_kind}
 use Rattle.shard_table.specs.Table.{Row}
 use Rattle.plan_steps.specs.declared.plan.Plan.{Plan}
 use Rattle.plan_steps.specs.declared.plan.Stage.{Stage}
@@ -136,18 +136,8 @@ unfoldable pub is_synced_file : List FileState → ℕ → Kind → Bool
 is_synced_file states server kind = list_any (λ s. is_file server kind s && is_synced s.stage) states
 
 -- a plain volume's files are dropped, not unregistered
-abbrev pub is_coded_kind : Kind → Bool
-is_coded_kind Dat = false
-is_coded_kind Idx = false
-is_coded_kind Cpd = false
-is_coded_kind Cpx = false
-is_coded_kind (Shard i) = nat_lt i max_shards
-is_coded_kind Ecx = true
-is_coded_kind Ecj = true
-is_coded_kind Vif = true
-
 abbrev pub may_unregister : Plan → List FileState → Row → ℕ → Kind → Bool
-may_unregister plan states row server kind = is_coded_kind kind && may_remove plan states row server kind
+may_unregister plan states row server kind = is_kind kind && (is_coded_kind kind && may_remove plan states row server kind)
 
 -- ---- the table
 

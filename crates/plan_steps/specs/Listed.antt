@@ -2,6 +2,7 @@
 use Rattle.std.proofs.Common.{◌≡◌, ◌≢◌, ◌⊎◌, inl, inr, ⊎_elim, ℕ, zero, suc, List, [], ◌∷◌, Some, None, refl, sym, ◌∙◌, ap}
 use Rattle.std.specs.Prelude.{slice_get}
 use Rattle.std.proofs.lemmas.Bool.{cases_eq}
+use Rattle.image_meaning.specs.Laws.Options.{none_some, some_is}
 use Rattle.file_names.specs.declared.Kind.{Kind}
 use Rattle.file_names.specs.declared.Kind.TheVariants.{Dat, Idx, Cpd, Cpx, Shard, Ecx, Ecj, Vif}
 use Rattle.plan_steps.specs.declared.plan.FileState.{FileState}
@@ -45,12 +46,6 @@ kind_cases a b = ⊎_elim (λ e. inl (sym (kind_again a) ∙ ap kind_by e ∙ ki
 -- the file's place in the list and its state
 abbrev pub IsListed : List FileState → ℕ → Kind → Type 0
 IsListed states server kind = (j : ℕ) × (s : FileState) × (slice_get states j ≡ Some s) × (s.server ≡ server) × (s.kind ≡ kind)
-
-some_is : {A : Type 0} (x y : A) → Some x ≡ Some y → x ≡ y
-some_is x y e = cc
-
-none_some : {A : Type 0} {x : A} → None ≡ Some x → ⊥
-none_some e = cc
 
 pub listed_or_other : (states : List FileState) (server : ℕ) (kind : Kind) → IsListed states server kind ⊎ IsOther states server kind
 listed_or_other [] server kind = inr (λ j s at a b. none_some at)

@@ -2,6 +2,7 @@
 use Rattle.std.specs.Prelude.{◌≡◌, ℕ, ◌+◌, ◌-◌, ◌*◌, ◌/◌, ◌%◌, ◌^◌, ◌<◌, ◌≤◌, nat_lt, ◌==◌, ◌&&◌, not, Bool, true, false, if◌then◌else◌, List, [], ◌∷◌, length, slice_get, Option, Some, None, option_map}
 use Rattle.std.specs.List.{list_any, position}
 use Rattle.std.specs.Option.{option_map_or}
+use Rattle.world_model.specs.Sizes.{deletion_length, max_dat}
 use Rattle.world_model.specs.declared.types.Command.{Command}
 use Rattle.world_model.specs.declared.types.Command.TheVariants.{Encode, Rebuild, Balance, Decode}
 use Rattle.file_names.specs.declared.Kind.{Kind}
@@ -17,12 +18,12 @@ use Rattle.plan_steps.specs.declared.plan.FileState.{FileState}
 use Rattle.plan_steps.specs.declared.step.Step.{Step}
 use Rattle.plan_steps.specs.declared.step.Step.TheVariants.{PutInfo, WriteEntries, PutJournal, MakePiece, MendPiece, JoinPiece, JoinDeletes, CopyPiece, Sync, Register, Unregister, DropIndex, DropData}
 use Rattle.plan_steps.specs.Planned.{is_at, is_found}
-use Rattle.plan_steps.specs.Walk.{place_of, first_open}
+use Rattle.plan_steps.specs.Walk.{position_of, first_open}
 
 -- the numbers of a plan are those that a volume may have
 pub record IsSized (plan : Plan) : Type 0 where
   pub geometry : GeometryInRange plan.info.geometry
-  pub room : plan.info.dat_size + 32 * length plan.deleted.items ≤ 2 ^ 35
+  pub room : plan.info.dat_size + deletion_length * length plan.deleted.items ≤ max_dat
   pub entries : length plan.entries.items < 2 ^ 60
   pub count : plan.entry_count < 2 ^ 60
 
@@ -37,7 +38,7 @@ entries_by plan Decode = plan.entry_count
 
 -- the length of the data file that a decode makes
 abbrev pub joined_length : Plan → ℕ
-joined_length plan = plan.info.dat_size + 32 * length plan.deleted.items
+joined_length plan = plan.info.dat_size + deletion_length * length plan.deleted.items
 
 -- a file with so many bytes is complete, where a decode's next record has this place
 abbrev pub is_whole : Plan → ℕ → ℕ → Kind → Bool
@@ -190,7 +191,7 @@ if_behind (Some index) s = if is_behind index.stage then index else s
 
 -- A data file that is synced waits until the index beside it is.
 abbrev pub turn_of : List FileState → FileState → FileState
-turn_of states s = if is_data s.kind && is_synced s.stage then if_behind (file_at states (place_of s.server Idx states)) s else s
+turn_of states s = if is_data s.kind && is_synced s.stage then if_behind (file_at states (position_of s.server Idx states)) s else s
 
 abbrev pub step_at : Plan → List FileState → ℕ → Option FileState → Option Step
 step_at plan states place None = None

@@ -4,7 +4,7 @@ use Rattle.world_model.specs.declared.types.Command.TheVariants.{Decode}
 use Rattle.file_names.specs.declared.Kind.{Kind}
 use Rattle.file_names.specs.declared.Kind.TheVariants.{Dat, Idx, Cpd, Cpx, Shard, Ecx, Ecj, Vif}
 use Rattle.stripe_layout.specs.Stripes.{shards_in_all}
-use Rattle.image_meaning.specs.Files.{max_servers}
+use Rattle.site_model.specs.Counts.{max_servers}
 use Rattle.plan_steps.specs.declared.plan.Plan.{Plan}
 use Rattle.plan_steps.specs.declared.plan.Stage.{Stage}
 use Rattle.plan_steps.specs.declared.plan.Stage.TheVariants.{Absent, Writing, Synced, Registered, Gone}

@@ -1,16 +1,19 @@
 -- Which plans there are: each is made of the places of a table on so many servers.
 use Rattle.std.specs.Prelude.{◌≡◌, ◌≢◌, ℕ, ◌+◌, ◌*◌, ◌%◌, ◌^◌, ◌<◌, ◌≤◌, not, Bool, List, [], ◌∷◌, length, map, flat_map, filter, slice_set, Option, Some, None, is_some}
 use Rattle.std.specs.List.{range_with_len, AllByRecursion}
+use Rattle.world_model.specs.Sizes.{deletion_length, max_dat}
 use Rattle.world_model.specs.declared.types.Command.{Command}
 use Rattle.world_model.specs.declared.types.Command.TheVariants.{Encode, Rebuild, Balance, Decode}
 use Rattle.world_model.specs.Ratios.{data_count}
 use Rattle.stripe_layout.specs.declared.Info.{Info}
 use Rattle.stripe_layout.specs.declared.Geometry.{Geometry}
 use Rattle.stripe_layout.specs.Stripes.{GeometryInRange, shards_in_all}
-use Rattle.shard_table.specs.Table.{Row, room, IsRow, place_in}
-use Rattle.shard_table.specs.Even.{IsFewest, AreInTurn, IsEven, row_after}
+use Rattle.shard_table.specs.Table.{Row, IsRow, place_in}
+use Rattle.file_names.specs.Names.{max_shards}
+use Rattle.shard_table.specs.Even.{IsFewest, AreInTurn, IsEvenRow, row_after}
 use Rattle.shard_table.specs.declared.moves.ShardMove.{ShardMove}
-use Rattle.image_meaning.specs.Files.{max_servers, lowest}
+use Rattle.image_meaning.specs.Files.{lowest}
+use Rattle.site_model.specs.Counts.{max_servers}
 use Rattle.plan_steps.specs.declared.plan.Plan.{Plan}
 use Rattle.plan_steps.specs.Planned.{held}
 
@@ -45,7 +48,7 @@ filled row (p ∷ targets) = filled (slice_set row p.0 (Some p.1)) targets
 -- The moves after which the shards are even.
 pub record AreMoves (servers : ℕ) (row : Row) (moves : List ShardMove) : Type 0 where
   pub in_turn : AreInTurn servers row moves
-  pub even : IsEven servers (row_after row moves)
+  pub even : IsEvenRow servers (row_after row moves)
 
 -- The shards stood at these places, and enough of them.
 pub record IsPlaced (servers : ℕ) (plan : Plan) (row : Row) : Type 0 where
@@ -88,7 +91,7 @@ pub record IsPlan (plan : Plan) (servers : ℕ) : Type 0 where
   pub few_servers : servers ≤ max_servers
   pub geometry : GeometryInRange plan.info.geometry
   pub some_bytes : 8 ≤ plan.info.dat_size
-  pub room : plan.info.dat_size + 32 * length plan.deleted.items ≤ 2 ^ 35
+  pub room : plan.info.dat_size + deletion_length * length plan.deleted.items ≤ max_dat
   pub entries : length plan.entries.items < 2 ^ 60
   pub count : plan.entry_count < 2 ^ 60
   pub ids : AllByRecursion (λ id. id < 2 ^ 64) plan.deleted.items

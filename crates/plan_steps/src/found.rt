@@ -1,4 +1,4 @@
-// Which files a plan found at its start.
+//! Which files a plan found at its start.
 #![tactic(auto)]
 
 ghost use Rattle.std.specs.Prelude.{◌≡◌};

@@ -1,26 +1,21 @@
-// Which step is legal.
+//! Which step is legal.
 #![tactic(auto)]
 
 ghost use Rattle.std.specs.Prelude.{◌≡◌};
 ghost use Rattle.shard_table.specs.Table.{row_of};
 ghost use Rattle.plan_steps.specs.Next.{IsSized};
 ghost use Rattle.plan_steps.specs.Legality.{deletes_go_on, entries_go_on, goes_on, goes_on_behind, is_behind_data};
-ghost use Rattle.plan_steps.specs.Legality.{is_coded_kind, is_complete_as, is_complete_file, is_in_order, is_join};
+ghost use Rattle.plan_steps.specs.Legality.{is_complete_as, is_complete_file, is_in_order, is_join};
 ghost use Rattle.plan_steps.specs.Legality.{is_legal, is_made_kind, is_make, is_shard, is_synced_file, is_writing};
 ghost use Rattle.plan_steps.specs.Legality.{join_goes_on, make_goes_on, may_unregister};
 
 use crate::next::is_data;
-use crate::pieces::{join_step, make_step};
+use crate::pieces::{ENTRY, join_step, make_step};
 use crate::walk::same_kind;
 use crate::{FileState, Plan, Progress, Stage, Step};
 use file_names::{Kind, MAX_SHARDS};
 use shard_table::ShardTable;
-
-/// The bytes of an entry of an index, and of a pair of a journal.
-const ENTRY: u64 = 16;
-
-/// The bytes of a deletion's record.
-const DELETION: u64 = 32;
+use world_model::limits::DELETION_LENGTH;
 
 impl Stage {
     fn is_writing(self) -> bool
@@ -39,22 +34,6 @@ fn is_shard(kind: Kind) -> bool
     match kind {
         Kind::Shard(_) => true,
         _ => false,
-    }
-}
-
-// A plain volume's files are dropped, not unregistered.
-fn is_coded_kind(kind: Kind) -> bool
-    ensures { result ≡ is_coded_kind kind }
-{
-    match kind {
-        Kind::Dat => false,
-        Kind::Idx => false,
-        Kind::Cpd => false,
-        Kind::Cpx => false,
-        Kind::Shard(shard) => shard < MAX_SHARDS,
-        Kind::Ecx => true,
-        Kind::Ecj => true,
-        Kind::Vif => true,
     }
 }
 
@@ -134,7 +113,8 @@ impl Plan {
         ensures { result ≡ may_unregister self.now progress.now.files.items
             (row_of table.now self.now.volume) server kind }
     {
-        is_coded_kind(kind) && self.may_remove(progress, table, server, kind)
+        // a plain volume's files are dropped, not unregistered
+        kind.is_in_grammar() && kind.is_coded() && self.may_remove(progress, table, server, kind)
     }
 
     // Whether the file is complete, and waits for its sync.
@@ -247,6 +227,6 @@ fn is_behind_data(size: u64, at: u64, length: u64) -> bool
     if length < size {
         false
     } else {
-        at == (length - size) / DELETION
+        at == (length - size) / DELETION_LENGTH
     }
 }

@@ -1,4 +1,4 @@
-// The first lists of the plans of a volume of 56 bytes with 10 + 4 shards over four servers.
+//! The first lists of the plans of a volume of 56 bytes with 10 + 4 shards over four servers.
 ghost use Rattle.std.specs.Prelude.{◌≡◌, IfOk, length};
 ghost use Rattle.plan_steps.specs.Next.{IsSized};
 

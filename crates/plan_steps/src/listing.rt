@@ -1,4 +1,4 @@
-// The list of a plan's files when it begins.
+//! The list of a plan's files when it begins.
 #![tactic(auto)]
 
 ghost use Rattle.std.specs.Prelude.{◌≡◌, ◌≤◌, ◌++◌, [], ◌∷◌, IfOk, OnOk, flat_map, length};
@@ -11,18 +11,18 @@ ghost use Rattle.plan_steps.specs.Beginning.{new_targets_of, targets_of};
 use crate::{FileState, Plan, Progress, Stage};
 use file_names::Kind;
 use shard_table::ShardMove;
+use site_model::MAX_SERVERS;
 use std::alloc::{AllocError, Global};
+use volume_forms::SUPER_LENGTH;
 use world_model::types::Command;
 
-const MAX_SERVERS: u32 = 64;
+// The length of a super block, behind which the first record stands.
+const FIRST_RECORD: u64 = SUPER_LENGTH as u64;
 
-/// The length of a super block, behind which the first record stands.
-const FIRST_RECORD: u64 = 8;
-
-/// What stands beside the shards of a server, in the order in which it comes.
+// What stands beside the shards of a server, in the order in which it comes.
 const BESIDE: [Kind; 3] = [Kind::Vif, Kind::Ecx, Kind::Ecj];
 
-/// And in the order in which it goes.
+// And in the order in which it goes.
 const LEFT: [Kind; 3] = [Kind::Ecx, Kind::Ecj, Kind::Vif];
 
 impl Progress {
@@ -224,8 +224,8 @@ impl Plan {
     }
 
     fn add_moves(&self, files: &mut Vec<FileState>) -> Result<(), AllocError>
-        ensures { OnOk result (files.new.items
-            ≡ files.old.items ++ first_states self.now (names_of_moves self.now (length self.now.moves.items))) }
+        ensures { OnOk result (files.new.items ≡ files.old.items
+            ++ first_states self.now (names_of_moves self.now (length self.now.moves.items))) }
     {
         for (count, shard_move) in self.moves.iter().enumerate() {
             let has = self.has_after(count, shard_move.to);

@@ -1,4 +1,4 @@
-// Which file may get its final name, and which may go.
+//! Which file may get its final name, and which may go.
 #![tactic(auto)]
 
 ghost use Rattle.std.specs.Prelude.{◌≡◌, ◌<◌, IsTrue};
@@ -9,15 +9,14 @@ ghost use Rattle.plan_steps.specs.May.{has_all_shards, has_an_index, has_beside,
 ghost use Rattle.plan_steps.specs.May.{has_some_shard, is_bare, is_coded, is_complete, is_complete_at, is_elsewhere};
 ghost use Rattle.plan_steps.specs.May.{has_shard_but, is_in_ratio, stands_elsewhere};
 ghost use Rattle.plan_steps.specs.May.{is_only_index, may_drop_index, may_drop_shard, may_register, may_remove};
-ghost use Rattle.file_names.specs.Names.{IsKind};
-ghost use Rattle.shard_table.specs.Table.{room, row_of};
+ghost use Rattle.file_names.specs.Names.{IsKind, max_shards};
+ghost use Rattle.shard_table.specs.Table.{row_of};
 
 use crate::{Plan, Progress};
 use file_names::{Kind, MAX_SHARDS};
 use shard_table::ShardTable;
+use site_model::MAX_SERVERS;
 use world_model::types::Command;
-
-const MAX_SERVERS: u32 = 64;
 
 impl Plan {
     /// Whether an index stands at some server.
@@ -175,7 +174,7 @@ impl Plan {
         server: u32,
         shard: u8,
     ) -> bool
-        requires { shard < room }
+        requires { shard < max_shards }
         ensures { result ≡ may_drop_shard self.now progress.now.files.items
             (row_of table.now self.now.volume) server shard }
     {

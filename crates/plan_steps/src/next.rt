@@ -1,26 +1,21 @@
-// Which step is next.
+//! Which step is next.
 #![tactic(auto)]
 
 ghost use Rattle.std.specs.Prelude.{◌≡◌, ◌↔◌, ◌^◌, ◌≤◌, ◌<◌, None};
 ghost use Rattle.plan_steps.specs.Planned.{is_at};
-ghost use Rattle.plan_steps.specs.Walk.{AreFinished, first_open, place_of};
+ghost use Rattle.plan_steps.specs.Walk.{AreFinished, first_open, position_of};
 ghost use Rattle.plan_steps.specs.Next.{IsSized, coming_step, copy_index, entries_by, file_at, file_step, first_holder, going_step};
 ghost use Rattle.plan_steps.specs.Next.{if_behind, index_step, is_behind, is_whole, is_data, is_made, is_move_of, is_synced};
 ghost use Rattle.plan_steps.specs.Next.{joined_length, mend_step, move_place, next_step, piece_step, shard_source, shard_step, step_at, turn_of};
 ghost use Rattle.file_names.specs.declared.Kind.TheVariants.{Idx};
 ghost use Rattle.plan_steps.specs.Legality.{IsLegalNext};
 
-use crate::pieces::{data_step, make_step};
+use crate::pieces::{ENTRY, data_step, make_step};
 use crate::{FileState, Plan, Progress, Stage, Step};
 use file_names::Kind;
 use shard_table::ShardMove;
+use world_model::limits::DELETION_LENGTH;
 use world_model::types::Command;
-
-/// The bytes of an entry of an index, and of a pair of a journal.
-const ENTRY: u64 = 16;
-
-/// The bytes of a deletion's record.
-const DELETION: u64 = 32;
 
 impl Stage {
     pub(crate) fn is_behind(self) -> bool
@@ -122,7 +117,7 @@ impl Progress {
         ensures { result ≡ turn_of self.now.files.items file }
     {
         if is_data(file.kind) && file.stage.is_synced() {
-            if_behind(self.file_at(self.place_of(file.server, Kind::Idx)), file)
+            if_behind(self.file_at(self.position_of(file.server, Kind::Idx)), file)
         } else {
             file
         }
@@ -209,7 +204,7 @@ impl Plan {
         requires { IsSized self.now }
         ensures { result ≡ joined_length self.now }
     {
-        self.info.dat_size + DELETION * self.deleted.len() as u64
+        self.info.dat_size + DELETION_LENGTH * self.deleted.len() as u64
     }
 
     /// Whether a file of this kind is complete with so many bytes, where the next record of a decode has this place.

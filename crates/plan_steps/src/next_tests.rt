@@ -1,4 +1,4 @@
-// The steps of each plan of the volume of 56 bytes, one after the other, to its end.
+//! The steps of each plan of the volume of 56 bytes, one after the other, to its end.
 ghost use Rattle.plan_steps.specs.Next.{IsSized};
 
 use crate::list_tests::{balance, decode, decode_less, decode_long, encode, rebuild};
@@ -13,7 +13,7 @@ fn is_shard(kind: Kind) -> bool {
     }
 }
 
-/// So many bytes more, if it is a file that the step appends to.
+// So many bytes more, if it is a file that the step appends to.
 fn grown(file: FileState, appends: bool, bytes: u64) -> FileState {
     if !appends || file.stage == Stage::Registered || file.stage == Stage::Synced {
         return file;
@@ -33,7 +33,7 @@ fn staged(file: FileState, finishes: bool, stage: Stage) -> FileState {
     }
 }
 
-/// The file after the step. Each list has at most one entry, and each block one piece of 8 bytes.
+// The file after the step. Each list has at most one entry, and each block one piece of 8 bytes.
 fn after(step: Step, file: FileState) -> FileState {
     let kind = file.kind;
     match step {
@@ -73,7 +73,7 @@ fn take(progress: &mut Progress, step: Step, joined: u64) {
     }
 }
 
-/// How many steps the plan has, where the data file that a decode joins has this length.
+// How many steps the plan has, where the data file that a decode joins has this length.
 fn steps(plan: &Plan, progress: &mut Progress, joined: u64) -> u32
     requires { IsSized plan.now }
 {
@@ -107,7 +107,7 @@ fn each_plan_comes_to_its_end(rt: HostRuntime) -> Result<(), Fail> {
     Ok(())
 }
 
-/// The next step where the first file of the plan's list has come so far.
+// The next step where the first file of the plan's list has come so far.
 fn next_from(plan: &Plan, mut progress: Progress, at: usize, length: u64) -> Option<Step>
     requires { IsSized plan.now }
 {

@@ -1,4 +1,4 @@
-// The plan of an encode over four servers, and one of a balance: what may come and what may go.
+//! The plan of an encode over four servers, and one of a balance: what may come and what may go.
 use crate::{FileState, Plan, Progress, Stage};
 use file_names::Kind;
 use shard_table::ShardTable;
@@ -13,7 +13,7 @@ const HOME: u32 = 2;
 
 const SHARDS: u8 = 14;
 
-/// A plan of volume 7, with these shards at the start.
+// A plan of volume 7, with these shards at the start.
 fn plan(alloc: Global, command: Command, places: Vec<(u8, u32)>) -> Plan {
     Plan {
         command,
@@ -41,7 +41,7 @@ fn encode(alloc: Global) -> Plan {
     plan(alloc, Command::Encode { ratio }, Vec::new(alloc))
 }
 
-/// A file that is written, or that was found and goes; the first `finished` files of the list are finished.
+// A file that is written, or that was found and goes; the first `finished` files of the list are finished.
 fn add(
     files: &mut Vec<FileState>,
     finished: usize,
@@ -65,7 +65,7 @@ fn add(
     Ok(())
 }
 
-/// The list of the encode: texts, indexes, shards, and the files of the plain volume.
+// The list of the encode: texts, indexes, shards, and the files of the plain volume.
 fn encode_list(alloc: Global, finished: usize) -> Result<Progress, AllocError> {
     let mut files = Vec::new(alloc);
     for server in 0..SERVERS {

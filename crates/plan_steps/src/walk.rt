@@ -1,9 +1,9 @@
-// The list of a plan's files, in the order in which they are finished.
+//! The list of a plan's files, in the order in which they are finished.
 #![tactic(auto)]
 
 ghost use Rattle.std.specs.Prelude.{◌≡◌};
 ghost use Rattle.plan_steps.specs.Walk.{first_open, has_file, is_file, is_finished, is_last_stage, is_open};
-ghost use Rattle.plan_steps.specs.Walk.{is_registered, is_registered_at, place_of, same_kind, stage_of};
+ghost use Rattle.plan_steps.specs.Walk.{is_registered, is_registered_at, position_of, same_kind, stage_of};
 
 use crate::{FileState, Plan, Progress, Stage};
 use file_names::Kind;
@@ -25,8 +25,8 @@ impl FileState {
 
 impl Progress {
     /// Where the file stands in the list.
-    pub fn place_of(&self, server: u32, kind: Kind) -> Option<usize>
-        ensures { result ≡ place_of server kind self.now.files.items }
+    pub fn position_of(&self, server: u32, kind: Kind) -> Option<usize>
+        ensures { result ≡ position_of server kind self.now.files.items }
     {
         self.files
             .iter()
@@ -38,7 +38,7 @@ impl Progress {
     pub fn stage_of(&self, server: u32, kind: Kind) -> Option<Stage>
         ensures { result ≡ stage_of server kind self.now.files.items }
     {
-        match self.place_of(server, kind) {
+        match self.position_of(server, kind) {
             Some(at) => Some(self.files[at].stage),
             None => None,
         }
@@ -65,7 +65,7 @@ impl Stage {
         }
     }
 
-    /// Whether a file that was found is at its end here, or else one that is written.
+    // Whether a file that was found is at its end here, or else one that is written.
     fn is_last(self, found: bool) -> bool
         ensures { result ≡ is_last_stage found self }
     {

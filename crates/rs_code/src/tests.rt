@@ -1,15 +1,16 @@
+//! Tests of the public calls, by worked rows.
 use super::*;
 
 const DATA: [u8; 10] = [0, 1, 2, 3, 4, 5, 6, 7, 8, 9];
 
-/// The sum of weight times byte.
+// The sum of weight times byte.
 fn weighed(row: &[u8], bytes: &[u8]) -> u8 {
     row.iter()
         .zip(bytes)
         .fold(0, |sum, (weight, byte)| add(sum, mul(*weight, *byte)))
 }
 
-/// The byte at each of these shards.
+// The byte at each of these shards.
 fn bytes_at(column: &[u8; 14], shards: &[u8; 10]) -> [u8; 10] {
     let mut bytes = [0; 10];
     for (byte, shard) in bytes.iter_mut().zip(shards) {
@@ -18,7 +19,7 @@ fn bytes_at(column: &[u8; 14], shards: &[u8; 10]) -> [u8; 10] {
     bytes
 }
 
-/// The shards whose bits stand in the mask, the first ten of them.
+// The shards whose bits stand in the mask, the first ten of them.
 fn chosen(mask: u32) -> [u8; 10] {
     let mut shards = [0; 10];
     let mut free = shards.iter_mut();

@@ -38,17 +38,17 @@ pub fn mul_add(out: &mut [u8], src: &[u8], c: u8)
     }
 }
 
-/// The numbers of shards.
+// The numbers of shards.
 static NUMBERS: [u8; 16] = [0, 1, 2, 3, 4, 5, 6, 7, 8, 9, 10, 11, 12, 13, 14, 15];
 
-/// The numbers of the data shards.
+// The numbers of the data shards.
 fn data_numbers(ratio: Ratio) -> &'static [u8]
     ensures { AreFirst (data_count ratio) result.now }
 {
     &NUMBERS[..usize::from(ratio.data_count())]
 }
 
-/// The numbers of the parity shards.
+// The numbers of the parity shards.
 fn parity_numbers(ratio: Ratio) -> &'static [u8]
     ensures { AreBehind (data_count ratio) (parity_count ratio) result.now }
 {
@@ -67,7 +67,7 @@ macro_rules! by_ratio {
     };
 }
 
-/// What the bytes of K shards are multiplied by, so that their sum is the byte of shard `want`.
+// What the bytes of K shards are multiplied by, so that their sum is the byte of shard `want`.
 fn weights_for<const K: usize, const M: usize>(have: &[u8; K], want: u8) -> [Weight; K]
     requires sizes { HasSizes K M }
     requires have { AreShards (K + M) have.now }
@@ -78,7 +78,7 @@ fn weights_for<const K: usize, const M: usize>(have: &[u8; K], want: u8) -> [Wei
     made_ready(&row)
 }
 
-/// The coefficients, ready for look-ups.
+// The coefficients, ready for look-ups.
 fn made_ready<const K: usize>(row: &[u8; K]) -> [Weight; K]
     ensures { coefficients_of result ≡ row.now }
 {
@@ -89,7 +89,7 @@ fn made_ready<const K: usize>(row: &[u8; K]) -> [Weight; K]
     weights
 }
 
-/// The same for each of the shards `want`.
+// The same for each of the shards `want`.
 fn weights_for_each<const K: usize, const M: usize, const R: usize>(
     have: &[u8; K],
     want: &[u8],
@@ -107,7 +107,7 @@ fn weights_for_each<const K: usize, const M: usize, const R: usize>(
     weights
 }
 
-/// Writes R pieces, one for each of the shards `want`.
+// Writes R pieces, one for each of the shards `want`.
 fn restore_rows<const K: usize, const M: usize, const R: usize>(
     have: &[u8; K],
     pieces: &[u8],
@@ -129,7 +129,7 @@ fn restore_rows<const K: usize, const M: usize, const R: usize>(
     sums::weigh(&weights, pieces, size, out);
 }
 
-/// Writes a piece for each of the shards `want` of a code of K and M.
+// Writes a piece for each of the shards `want` of a code of K and M.
 fn restore<const K: usize, const M: usize>(have: &[u8], pieces: &[u8], want: &[u8], out: &mut [u8])
     requires sizes { HasSizes K M }
     requires kernel { IsPieceCount K }

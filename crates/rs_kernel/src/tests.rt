@@ -1,4 +1,4 @@
-// The kernels against columns that were computed elsewhere, and against sums byte by byte.
+//! The kernels against columns that were computed elsewhere, and against sums byte by byte.
 ghost use Rattle.std.specs.Prelude.{◌≡◌, ◌<◌, ◌≤◌, ◌*◌, length};
 ghost use Rattle.std.specs.Prelude.{◌+◌, slice_index, EachIndex};
 ghost use Rattle.rs_code.specs.Shards.{HasSizes};
@@ -10,7 +10,7 @@ use std::alloc::Global;
 use std::process::Abort;
 use std::test::Fail;
 
-/// Bytes that no rule of the code makes.
+// Bytes that no rule of the code makes.
 fn fill(bytes: &mut [u8]) {
     let mut state = 88172645463325252u64;
     for byte in bytes.iter_mut() {
@@ -21,11 +21,11 @@ fn fill(bytes: &mut [u8]) {
     }
 }
 
-/// Lengths about those of a vector and of a block, and a piece's own.
+// Lengths about those of a vector and of a block, and a piece's own.
 const SIZES: [usize; 10] = [1, 7, 16, 17, 31, 33, 64, 511, 513, 65536];
 
-/// Of five columns the bytes of a data shard: its number, the square of it, a seven, and a 1 at the last shard and at
-/// the one before it.
+// Of five columns the bytes of a data shard: its number, the square of it, a seven, and a 1 at the last shard and at
+// the one before it.
 fn column_bytes(shard: u8, shards: u8) -> [u8; 5] {
     let last = shards.saturating_sub(1);
     let before = shards.saturating_sub(2);
@@ -38,7 +38,7 @@ fn column_bytes(shard: u8, shards: u8) -> [u8; 5] {
     ]
 }
 
-/// These columns have this parity, as five bytes of each of its shards.
+// These columns have this parity, as five bytes of each of its shards.
 fn columns_make(rt: &impl Abort, ratio: Ratio, parity: &[[u8; 5]]) {
     let (data_count, parity_count) = (ratio.data_count(), ratio.parity_count());
     let mut data = [0; 60];
@@ -81,7 +81,7 @@ fn columns_make_their_parity(rt: HostRuntime) {
     columns_make(&rt, Ratio::TwelveFour, &sixteen);
 }
 
-/// The shards whose bits stand in the mask, the first K of them.
+// The shards whose bits stand in the mask, the first K of them.
 fn chosen<const K: usize>(mask: u32) -> [u8; K] {
     let mut shards = [0; K];
     let mut free = shards.iter_mut();
@@ -95,7 +95,7 @@ fn chosen<const K: usize>(mask: u32) -> [u8; K] {
     shards
 }
 
-/// Each byte of a column is restored from these.
+// Each byte of a column is restored from these.
 fn gives_all(rt: &impl Abort, ratio: Ratio, column: &[u8], have: &[u8])
     requires { AreEnough (data_count ratio) (parity_count ratio) have.now }
 {
@@ -112,7 +112,7 @@ fn gives_all(rt: &impl Abort, ratio: Ratio, column: &[u8], have: &[u8])
     }
 }
 
-/// How many sets of K of the shards give each of them.
+// How many sets of K of the shards give each of them.
 fn sets_that_give_all<const K: usize, const M: usize>(
     rt: &impl Abort,
     alloc: Global,
@@ -153,7 +153,7 @@ fn multiples_are_added(rt: HostRuntime) {
     assert_eq!(rt; out, [28; 33]);
 }
 
-/// The data pieces of this length, and then their parity pieces.
+// The data pieces of this length, and then their parity pieces.
 fn encoded(alloc: Global, ratio: Ratio, size: usize) -> Result<Vec<u8>, Fail>
     requires { size ≤ 65536 }
 {
@@ -165,7 +165,7 @@ fn encoded(alloc: Global, ratio: Ratio, size: usize) -> Result<Vec<u8>, Fail>
     Ok(pieces)
 }
 
-/// The piece of one shard.
+// The piece of one shard.
 fn piece(pieces: &[u8], size: usize, shard: u8) -> &[u8]
     requires { 0 < size }
 {
@@ -175,7 +175,7 @@ fn piece(pieces: &[u8], size: usize, shard: u8) -> &[u8]
         .unwrap_or(&[])
 }
 
-/// The pieces of these shards.
+// The pieces of these shards.
 fn gathered(alloc: Global, pieces: &[u8], size: usize, have: &[u8]) -> Result<Vec<u8>, Fail>
     requires { 0 < size }
 {
@@ -186,7 +186,7 @@ fn gathered(alloc: Global, pieces: &[u8], size: usize, have: &[u8]) -> Result<Ve
     Ok(gathered)
 }
 
-/// Adds `c` times `src` to `out` byte by byte, by a table of the products.
+// Adds `c` times `src` to `out` byte by byte, by a table of the products.
 fn plain_mul_add(out: &mut [u8], src: &[u8], c: u8) {
     let mut products = [0; 256];
     for value in 0..=255u8 {
@@ -197,7 +197,7 @@ fn plain_mul_add(out: &mut [u8], src: &[u8], c: u8) {
     }
 }
 
-/// A parity piece by one multiple of each data piece after the other.
+// A parity piece by one multiple of each data piece after the other.
 fn plain_parity(alloc: Global, pieces: &[u8], size: usize, p: u8) -> Result<Vec<u8>, Fail>
     requires size { 0 < size }
     requires shard { p < 4 }
@@ -240,7 +240,7 @@ fn multiples_are_the_plain_ones(rt: HostRuntime) -> Result<(), Fail> {
     Ok(())
 }
 
-/// Restores the first shard, and then two, three and four of the first five at once, from these.
+// Restores the first shard, and then two, three and four of the first five at once, from these.
 fn restores(
     rt: &impl Abort,
     alloc: Global,
@@ -281,7 +281,7 @@ fn restores(
     Ok(())
 }
 
-/// The pieces of these shards were restored.
+// The pieces of these shards were restored.
 fn stands_there(rt: &impl Abort, pieces: &[u8], size: usize, want: &[u8], out: &[u8])
     requires { 0 < size }
 {

@@ -1,4 +1,4 @@
--- A start, a step and an end of a job, by what the store does to its board.
+-- A start, a step and an end of a job, by what the store does to its board. For `weed_shell` with jobs, to come.
 use Rattle.std.proofs.Common.{◌≡◌, ◌≢◌, ℕ, ◌+◌, ◌<◌, ◌≤◌, true, [], ◌∷◌, ◌++◌, Option, Some, None, IsSome, refl, sym, ◌∙◌, ap, subst, arith}
 use Rattle.std.specs.Prelude.{map, option_and_then}
 use Rattle.std.specs.Option.{option_map_or}

@@ -1,4 +1,4 @@
--- The lines of a sample run.
+-- The lines of a sample run. For the samples of `weed_shell`, to come.
 use Rattle.std.proofs.Common.{refl}
 use Rattle.std.specs.Prelude.{◌≡◌, ℕ, zero, suc, ◌+◌, ◌*◌, ◌/◌, ◌%◌, ◌^◌, ◌==◌, ◌&&◌, not, false, List, ◌∷◌, ◌++◌, length, map, filter, None}
 use Rattle.std.specs.List.{range_with_len}

@@ -1,3 +1,2 @@
-pub mod Fits
-pub mod Counting
+pub mod Troubles
 pub mod Kept

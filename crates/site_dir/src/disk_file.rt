@@ -1,4 +1,4 @@
-// Open files and folders, apart from standard input, output and error.
+//! Open files and folders, apart from standard input, output and error.
 ghost use Rattle.std.specs.Prelude.{pos, ◌<ℤ◌};
 ghost use Rattle.std.specs.Fd.{file_raw_fd};
 
@@ -10,7 +10,7 @@ use std::io::{Error, ErrorKind, Write};
 use std::os::fd::AsRawFd;
 use std::os::unix::fs::FileExt;
 
-/// The number of standard error. Those of standard input and output are below it.
+// The number of standard error. Those of standard input and output are below it.
 const STANDARD_ERROR: i32 = 2;
 
 /// An open file or folder, whose number isn't one of standard input, output and error.
@@ -21,7 +21,7 @@ pub struct DiskFile {
 }
 
 impl DiskFile {
-    /// A file with one of those numbers is given back.
+    // A file with one of those numbers is given back.
     fn new(file: File) -> Result<DiskFile, File> {
         if file.as_raw_fd() > STANDARD_ERROR {
             Ok(DiskFile { file })

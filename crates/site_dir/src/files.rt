@@ -1,4 +1,4 @@
-// Files and folders by their paths.
+//! Files and folders by their paths.
 ghost use Rattle.std.specs.Prelude.{◌≤◌, length, IfOk};
 
 use crate::disk_file::DiskFile;
@@ -8,7 +8,7 @@ use std::io::{Error, ErrorKind, Read};
 use std::os::unix::fs::MetadataExt;
 use std::{fs, io, str};
 
-/// Room for some of a folder's names, as the system gives them.
+// Room for some of a folder's names, as the system gives them.
 const NAMES: usize = 8192;
 
 /// What stands at a path, where no link is followed.

@@ -1,17 +1,19 @@
-// The servers' folders and their files. Nothing is counted here.
+//! The servers' folders and their files. Nothing is counted here.
 ghost use Rattle.std.specs.Prelude.{◌<◌};
+ghost use Rattle.site_model.specs.Counts.{max_servers};
 
 use crate::disk_file::DiskFile;
 use crate::files;
 use crate::files::Standing;
 use crate::kept::KeptFiles;
 use crate::trouble::{Trouble, at, at_file};
+use site_model::PLACES;
 use std::alloc::Global;
 use std::fs::{File, Files};
 use std::io::{Error, ErrorKind, Print, Write};
 use std::{fs, io};
 
-/// What the system says where this program, or all programs together, have too many files open.
+// What the system says where this program, or all programs together, have too many files open.
 const TOO_MANY_OPEN_FILES: [i32; 2] = [24, 23];
 
 /// Folders with files, of which some are kept open, and standard output.
@@ -25,7 +27,7 @@ pub struct Folders<R: Files + Drop> {
     pub(crate) here: DiskFile,
     pub(crate) kept: KeptFiles<DiskFile>,
     // by server, whether a name came, went or changed and may not last yet
-    pub(crate) is_name_new: [bool; 64],
+    pub(crate) is_name_new: [bool; PLACES],
 }
 
 fn wants_descriptors(error: &Error) -> bool {
@@ -56,7 +58,7 @@ impl<R: Files<File = File> + AllocGlobal + Print + Clone + Drop> Folders<R> {
 
     // Makes the names of a server's files last. Where that fails, the next sync there tries it again.
     fn sync_names(&mut self, server: u32) -> Result<(), Trouble>
-        requires { server < 64 }
+        requires { server < max_servers }
     {
         self.is_name_new[server as usize] = true;
         let folder = files::folder_path(self.alloc, server)?;
@@ -73,7 +75,7 @@ impl<R: Files<File = File> + AllocGlobal + Print + Clone + Drop> Folders<R> {
     }
 
     fn open(&mut self, server: u32, path: &str, is_made: bool) -> io::Result<DiskFile>
-        requires { server < 64 }
+        requires { server < max_servers }
     {
         match self.attempt(|rt| files::open(rt, path)) {
             Err(e) if is_made && e.kind() == ErrorKind::NotFound => {
@@ -86,7 +88,7 @@ impl<R: Files<File = File> + AllocGlobal + Print + Clone + Drop> Folders<R> {
 
     // Where a file stands among those that are kept. It may be made.
     fn opened(&mut self, server: u32, name: &str, is_made: bool) -> Result<usize, Trouble>
-        requires { server < 64 }
+        requires { server < max_servers }
         ensures { IfOk result (λ at. IsAt (server, name.now) self.new.kept.files.items at) }
     {
         if let Some(place) = self.kept.position(server, name) {
@@ -131,7 +133,7 @@ impl<R: Files<File = File> + AllocGlobal + Print + Clone + Drop> Folders<R> {
         from: u64,
         out: &mut [u8],
     ) -> Result<(), Trouble>
-        requires { server < 64 }
+        requires { server < max_servers }
     {
         let place = self.opened(server, name, false)?;
         let filled = self.kept.files[place].file.read(from, out);
@@ -140,7 +142,7 @@ impl<R: Files<File = File> + AllocGlobal + Print + Clone + Drop> Folders<R> {
 
     /// Writes the bytes at the file's end. An absent file is made.
     pub fn append(&mut self, server: u32, name: &str, bytes: &[u8]) -> Result<(), Trouble>
-        requires { server < 64 }
+        requires { server < max_servers }
     {
         let place = self.opened(server, name, true)?;
         let done = self.kept.files[place].file.append(bytes);
@@ -149,7 +151,7 @@ impl<R: Files<File = File> + AllocGlobal + Print + Clone + Drop> Folders<R> {
 
     /// Makes the file last, and its name where that is new.
     pub fn sync(&mut self, server: u32, name: &str) -> Result<(), Trouble>
-        requires { server < 64 }
+        requires { server < max_servers }
     {
         let place = self.opened(server, name, false)?;
         let done = self.kept.files[place].file.sync();
@@ -162,7 +164,7 @@ impl<R: Files<File = File> + AllocGlobal + Print + Clone + Drop> Folders<R> {
 
     /// Ends the file at a length that is at most its own, for good.
     pub fn cut(&mut self, server: u32, name: &str, length: u64) -> Result<(), Trouble>
-        requires { server < 64 }
+        requires { server < max_servers }
     {
         let place = self.opened(server, name, false)?;
         let done = self.kept.files[place].file.cut(length);
@@ -171,7 +173,7 @@ impl<R: Files<File = File> + AllocGlobal + Print + Clone + Drop> Folders<R> {
 
     /// Gives a file another name, for good.
     pub fn rename(&mut self, server: u32, old: &str, new: &str) -> Result<(), Trouble>
-        requires { server < 64 }
+        requires { server < max_servers }
     {
         let from = self.path(server, old)?;
         let to = self.path(server, new)?;
@@ -188,7 +190,7 @@ impl<R: Files<File = File> + AllocGlobal + Print + Clone + Drop> Folders<R> {
 
     /// Takes a file away, for good.
     pub fn remove(&mut self, server: u32, name: &str) -> Result<(), Trouble>
-        requires { server < 64 }
+        requires { server < max_servers }
     {
         let path = self.path(server, name)?;
         let found = files::require(&self.rt, path.as_str());

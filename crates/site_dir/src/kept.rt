@@ -1,9 +1,9 @@
-// The files that are kept open.
+//! The files that are kept open.
 ghost use Rattle.std.specs.Prelude.{◌≤◌, length};
 
 use std::alloc::{AllocError, Global};
 
-/// How many files are kept open at most.
+// How many files are kept open at most.
 const MOST: usize = 64;
 
 /// An open file of a server.

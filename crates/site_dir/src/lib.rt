@@ -4,6 +4,7 @@
 #![tactic(auto)]
 
 mod clock;
+mod counted;
 mod disk_file;
 mod files;
 mod folders;
@@ -11,7 +12,6 @@ mod kept;
 mod opening;
 mod site;
 mod source;
-mod tally;
 mod trouble;
 
 pub use clock::SystemClock;

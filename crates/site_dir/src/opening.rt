@@ -1,23 +1,22 @@
-// The opening of the servers' folders at the start of a run.
+//! The opening of the servers' folders at the start of a run.
 ghost use Rattle.std.specs.Prelude.{◌<◌, ◌≤◌, IfOk};
+ghost use Rattle.site_model.specs.Counts.{max_servers};
 
 use crate::disk_file::DiskFile;
 use crate::files;
 use crate::folders::Folders;
 use crate::kept::KeptFiles;
 use crate::trouble::{Trouble, at};
+use site_model::{MAX_SERVERS, PLACES};
 use std::alloc::Global;
 use std::fs;
 use std::fs::{File, Files};
 use std::io::{Error, ErrorKind, Print};
 
-/// As many servers as there can be.
-const MOST_SERVERS: u32 = 64;
-
-/// The servers of a site that is new.
+// The servers of a site that is new.
 const FIRST_SERVERS: u32 = 4;
 
-/// The folder that has those of the servers.
+// The folder that has those of the servers.
 const HERE: &str = ".";
 
 impl<R: Files<File = File> + AllocGlobal + Print + Clone + Drop> Folders<R> {
@@ -27,7 +26,7 @@ impl<R: Files<File = File> + AllocGlobal + Print + Clone + Drop> Folders<R> {
     /// in them of volumes lasts from now on. Where not all that are missing can be made, none of them is left.
     pub fn new(rt: R, alloc: Global) -> Result<(Folders<R>, u32), Trouble>
         ensures some { IfOk result (λ pair. 0 < pair.1) }
-        ensures few { IfOk result (λ pair. pair.1 ≤ 64) }
+        ensures few { IfOk result (λ pair. pair.1 ≤ max_servers) }
     {
         let (stand_ins, here) = at(alloc, HERE, DiskFile::open_apart(&rt, alloc, HERE))?;
         at(alloc, HERE, here.lock())?;
@@ -37,7 +36,7 @@ impl<R: Files<File = File> + AllocGlobal + Print + Clone + Drop> Folders<R> {
             stand_ins,
             here,
             kept: KeptFiles::new(alloc),
-            is_name_new: [false; 64],
+            is_name_new: [false; PLACES],
         };
         let servers = match folders.count()? {
             0 => FIRST_SERVERS,
@@ -53,10 +52,10 @@ impl<R: Files<File = File> + AllocGlobal + Print + Clone + Drop> Folders<R> {
 
     // One more than the highest number of a server that has a folder, and 0 where none has.
     fn count(&self) -> Result<u32, Trouble>
-        ensures { IfOk result (λ n. n ≤ 64) }
+        ensures { IfOk result (λ n. n ≤ max_servers) }
     {
-        for higher in 0..MOST_SERVERS {
-            let count = MOST_SERVERS - higher;
+        for higher in 0..MAX_SERVERS {
+            let count = MAX_SERVERS - higher;
             if self.has_folder(count - 1)? {
                 return Ok(count);
             }

@@ -1,8 +1,9 @@
-// Folders and standard output as a site.
+//! Folders and standard output as a site.
 ghost use Rattle.std.specs.Prelude.{◌<◌, ◌≤◌};
+ghost use Rattle.site_model.specs.Counts.{max_servers};
 
+use crate::counted::Counted;
 use crate::folders::Folders;
-use crate::tally::Tally;
 use crate::trouble::Trouble;
 use site_model::{Failed, Site, SiteError};
 use std::alloc::Global;
@@ -19,9 +20,9 @@ use std::io::Print;
 pub struct DirSite<R: Files + Drop> {
     folders: Folders<R>,
     servers: u32,
-    tally: Tally,
+    counted: Counted,
     ghost some: { 0 < servers },
-    ghost few: { servers ≤ 64 },
+    ghost few: { servers ≤ max_servers },
 }
 
 fn lacks_memory<T>(found: &Result<T, Trouble>) -> bool {
@@ -34,7 +35,7 @@ fn lacks_memory<T>(found: &Result<T, Trouble>) -> bool {
 impl<R: Files<File = File> + AllocGlobal + Print + Clone + Drop> DirSite<R> {
     ghost use Rattle.std.specs.Prelude.{◌≡◌, ◌<◌, ◌↔◌, IfOk, IsErr, IsSome};
     ghost use Rattle.site_model.specs.Counts.{CountsRead, CountsWrite};
-    ghost use Rattle.site_dir.specs.Counting.{counts_of, AreNone};
+    ghost use Rattle.site_model.specs.Tallies.{counts_of, AreNone};
 
     /// The site of the current folder. There are as many servers as the highest of the numbers 0 to 63 that has
     /// a folder asks for, and four where none has; folders that are missing are made. Every file of a volume that
@@ -43,20 +44,20 @@ impl<R: Files<File = File> + AllocGlobal + Print + Clone + Drop> DirSite<R> {
     /// No file that it opens gets the number of standard input, output or error, also where those were closed. It
     /// fails where another site has the folder.
     pub fn open(rt: R, alloc: Global) -> Result<DirSite<R>, Trouble>
-        ensures { IfOk result (λ site. AreNone (counts_of site.tally)) }
+        ensures { IfOk result (λ site. AreNone (counts_of site.counted.tally)) }
     {
-        let tally = Tally::new(alloc)?;
+        let counted = Counted::new(alloc)?;
         let (folders, servers) = Folders::new(rt, alloc)?;
         Ok(DirSite {
             folders,
             servers,
-            tally,
+            counted,
         })
     }
 
     /// As `open`, for who doesn't ask for the file or folder that failed.
     pub fn new(rt: R, alloc: Global) -> Result<DirSite<R>, SiteError>
-        ensures { IfOk result (λ site. AreNone (counts_of site.tally)) }
+        ensures { IfOk result (λ site. AreNone (counts_of site.counted.tally)) }
     {
         match DirSite::open(rt, alloc) {
             Ok(site) => Ok(site),
@@ -67,11 +68,11 @@ impl<R: Files<File = File> + AllocGlobal + Print + Clone + Drop> DirSite<R> {
 
     /// Why the last call on a server that failed did, and None where none has.
     pub fn trouble(&self, server: u32) -> Option<&Trouble>
-        ensures told { server < self.now.servers → 0 < (counts_of self.now.tally).faults server
+        ensures told { server < self.now.servers → 0 < (counts_of self.now.counted.tally).faults server
             → IsSome result }
     {
         if server < self.servers {
-            self.tally.trouble(server)
+            self.counted.trouble(server)
         } else {
             None
         }
@@ -80,18 +81,18 @@ impl<R: Files<File = File> + AllocGlobal + Print + Clone + Drop> DirSite<R> {
     // Counts a call that writes, which the machine answered so.
     fn wrote(&mut self, server: u32, width: usize, done: Result<(), Trouble>) -> Result<(), Failed>
         requires { server < self.old.servers }
-        ensures counts { CountsWrite server width (counts_of self.old.tally) (counts_of self.new.tally)
-            (IsErr result) }
+        ensures counts { CountsWrite server width (counts_of self.old.counted.tally)
+            (counts_of self.new.counted.tally) (IsErr result) }
         ensures servers { self.new.servers ≡ self.old.servers }
         ensures outcome { IsErr result ↔ IsErr done }
     {
         match done {
             Ok(()) => {
-                self.tally.count_write(server, width, None);
+                self.counted.count_write(server, width, None);
                 Ok(())
             }
             Err(trouble) => {
-                self.tally.count_write(server, width, Some(trouble));
+                self.counted.count_write(server, width, Some(trouble));
                 Err(Failed)
             }
         }
@@ -105,18 +106,18 @@ impl<R: Files<File = File> + AllocGlobal + Print + Clone + Drop> DirSite<R> {
         found: Result<T, Trouble>,
     ) -> Result<T, Failed>
         requires { server < self.old.servers }
-        ensures counts { CountsRead server width (counts_of self.old.tally) (counts_of self.new.tally)
-            (IsErr result) }
+        ensures counts { CountsRead server width (counts_of self.old.counted.tally)
+            (counts_of self.new.counted.tally) (IsErr result) }
         ensures servers { self.new.servers ≡ self.old.servers }
         ensures outcome { IsErr result ↔ IsErr found }
     {
         match found {
             Ok(found) => {
-                self.tally.count_read(server, width, None);
+                self.counted.count_read(server, width, None);
                 Ok(found)
             }
             Err(trouble) => {
-                self.tally.count_read(server, width, Some(trouble));
+                self.counted.count_read(server, width, Some(trouble));
                 Err(Failed)
             }
         }
@@ -125,13 +126,13 @@ impl<R: Files<File = File> + AllocGlobal + Print + Clone + Drop> DirSite<R> {
 
 impl<R: Files<File = File> + AllocGlobal + Print + Clone + Drop> Site for DirSite<R> {
     ghost use Rattle.std.specs.Prelude.{false, None, []};
-    ghost use Rattle.site_dir.specs.Counting.{counts_of};
+    ghost use Rattle.site_model.specs.Tallies.{counts_of};
 
     ghost tells = { false };
 
     ghost disk = { λ _. record { files = λ _. None; said = []; past = [] } };
 
-    ghost counts = { λ s. counts_of s.tally };
+    ghost counts = { λ s. counts_of s.counted.tally };
 
     ghost servers = { λ s. s.servers };
 
@@ -142,7 +143,7 @@ impl<R: Files<File = File> + AllocGlobal + Print + Clone + Drop> Site for DirSit
     fn list(&mut self, _alloc: Global, server: u32) -> Result<Vec<String>, SiteError> {
         let found = self.folders.list(server);
         if lacks_memory(&found) {
-            self.tally.count_read(server, 0, None);
+            self.counted.count_read(server, 0, None);
             return Err(SiteError::Memory);
         }
         self.looked(server, 0, found).map_err(|_| SiteError::Failed)
@@ -186,11 +187,11 @@ impl<R: Files<File = File> + AllocGlobal + Print + Clone + Drop> Site for DirSit
     fn say(&mut self, bytes: &[u8]) -> Result<(), Failed> {
         match self.folders.say(bytes) {
             Ok(()) => {
-                self.tally.count_say(false);
+                self.counted.count_say(false);
                 Ok(())
             }
             Err(_) => {
-                self.tally.count_say(true);
+                self.counted.count_say(true);
                 Err(Failed)
             }
         }

@@ -1,4 +1,4 @@
-// Standard input as a source.
+//! Standard input as a source.
 use crate::files::read_some;
 use site_model::{Failed, Source};
 use std::io::Input;

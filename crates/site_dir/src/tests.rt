@@ -1,4 +1,4 @@
-// The outside of the machine, run in empty folders.
+//! The outside of the machine, run in empty folders.
 ghost use Rattle.std.specs.Prelude.{IsTrue};
 
 use crate::{DirSite, StdSource, SystemClock};

@@ -1,4 +1,4 @@
-// Why a call on the machine failed.
+//! Why a call on the machine failed.
 use std::alloc::{AllocError, Global};
 use std::fmt::{Display, Formatter};
 use std::io::{Error, ErrorKind};

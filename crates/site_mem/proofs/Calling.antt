@@ -6,10 +6,10 @@ use Rattle.site_mem.specs.declared.entry.Entry.{Entry}
 use Rattle.site_mem.specs.declared.stored.Stored.{Stored}
 use Rattle.site_mem.specs.declared.history.History.{History}
 use Rattle.site_mem.specs.Events.{Event, event_kept, added, told, called, after, files_after, put_file, is_place}
-use Rattle.site_mem.specs.Kept.{files_of, file_of, place_of}
+use Rattle.site_mem.specs.Kept.{files_kept, file_of, place_kept}
 use Rattle.site_mem.specs.Lost.{has_lost, had_lost, files_without}
 use Rattle.site_mem.specs.Record.{nothing, after_entry, from, disk_of}
-use Rattle.site_mem.specs.Entered.{IsEntered, IsKept}
+use Rattle.site_mem.specs.Entered.{IsEntered, IsUnentered}
 use Rattle.site_mem.specs.Calls.{Underway, call_of, at_call, Begins, are_numbered, are_within, IsNowhereElse}
 use Rattle.site_mem.specs.Effects.{Effect, IsDone}
 use Rattle.site_mem.specs.Counting.{IsWithin, is_within}
@@ -85,14 +85,14 @@ at_loss n d [] since now same = λ i. record { files = λ k. cond ((same k.0) i)
 at_loss n d (x ∷ entries) since now same = ap (λ u. cond (nat_lt x.number n) u (record { files = files_without (had_lost x.lost.since n) d.files; said = d.said; call = cond (x.number == n) (call_of (event_kept x.asked)) None })) (at_loss n (after_entry d x) entries since now same)
 
 -- what is kept has no more firm bytes than it has
-pub front_of : (kept : List Stored) (k : Place) → HasFirmFront (files_of kept k)
+pub front_of : (kept : List Stored) (k : Place) → HasFirmFront (files_kept kept k)
 front_of [] k = tt
-front_of (s ∷ kept) k = cond_both (is_place (place_of s) k) (Some (file_of s)) (files_of kept k) HasFirmFront (λ is. s.front) (λ off. front_of kept k)
+front_of (s ∷ kept) k = cond_both (is_place (place_kept s) k) (Some (file_of s)) (files_kept kept k) HasFirmFront (λ is. s.front) (λ off. front_of kept k)
 
 -- what is kept are bytes
-pub bytes_kept : (kept : List Stored) (k : Place) → AreBytes (bytes_of (files_of kept k))
+pub bytes_kept : (kept : List Stored) (k : Place) → AreBytes (bytes_of (files_kept kept k))
 bytes_kept [] k = tt
-bytes_kept (s ∷ kept) k = cond_both (is_place (place_of s) k) (Some (file_of s)) (files_of kept k) (λ f. AreBytes (bytes_of f)) (λ is. s.are_bytes) (λ off. bytes_kept kept k)
+bytes_kept (s ∷ kept) k = cond_both (is_place (place_kept s) k) (Some (file_of s)) (files_kept kept k) (λ f. AreBytes (bytes_of f)) (λ is. s.are_bytes) (λ off. bytes_kept kept k)
 
 -- a place at a server is none where no file stands
 else_where : (servers : ℕ) (p k : Place) (file : Option File) (files : Files) → p.0 < servers → servers ≤ k.0 → IsNowhereElse servers files → is_some (put_file p file files k) ≡ false
@@ -167,9 +167,9 @@ nowhere_at servers n d (e ∷ entries) since within nowhere = each (nat_lt e.num
 
 -- One entry more, or none for want of memory.
 pub record Steps (n : ℕ) (b : Bool) (event : Event) (old new : History) (entered : Bool) : Type 0 where
-  pub is : MatchBool entered (IsEntered n b event old new) (IsKept old new)
+  pub is : MatchBool entered (IsEntered n b event old new) (IsUnentered old new)
 
-pub steps_from : {n : ℕ} {b : Bool} {event : Event} {old new : History} {E : Type 0} (r : Result (Unit {0}) E) → OnOk r (IsEntered n b event old new) → OnErr r (IsKept old new) → Steps n b event old new (is_ok r)
+pub steps_from : {n : ℕ} {b : Bool} {event : Event} {old new : History} {E : Type 0} (r : Result (Unit {0}) E) → OnOk r (IsEntered n b event old new) → OnErr r (IsUnentered old new) → Steps n b event old new (is_ok r)
 steps_from (Ok x) ok err = record { is = ok }
 steps_from (Err e) ok err = record { is = err }
 

@@ -10,10 +10,11 @@ use Rattle.site_mem.specs.declared.stored.Stored.{Stored}
 use Rattle.site_mem.specs.declared.tear.Tear.{Tear}
 use Rattle.site_mem.specs.declared.tear.Tear.TheVariants.{None as KeepsNone, All, Half, Fill}
 use Rattle.site_mem.specs.Events.{Event, event_kept, added, told, called, done, put_file, files_called}
-use Rattle.site_mem.specs.Kept.{place_of, file_of, files_of, are_apart}
+use Rattle.site_mem.specs.Kept.{place_kept, file_of, files_kept, are_apart}
 use Rattle.site_mem.specs.Lost.{had_lost, files_without}
 use Rattle.site_mem.specs.Record.{nothing, after_entry}
-use Rattle.site_mem.specs.Counting.{IsWithin, is_within, AreNone}
+use Rattle.site_mem.specs.Counting.{IsWithin, is_within}
+use Rattle.site_model.specs.Tallies.{AreNone}
 use Rattle.site_mem.specs.Calls.{Underway, at_call, call_of, are_within, IsNowhereElse}
 use Rattle.site_mem.specs.Replayed.{IsContentsAt}
 use Rattle.site_mem.specs.Torn.{torn, torn_file, files_reached, said_reached, firm_of, IsTorn}
@@ -71,21 +72,21 @@ nowhere_reached servers (Fill value) (Some (says bytes)) files within nowhere = 
 
 -- what a stop within the call finds done
 pub record IsReached (tear : Tear) (under_way : Underway) (contents : Contents) : Type 0 where
-  pub files : files_of contents.files.items ≡ files_reached tear under_way.call under_way.files
+  pub files : files_kept contents.files.items ≡ files_reached tear under_way.call under_way.files
   pub said : contents.said.items ≡ said_reached tear under_way.call under_way.said
 
 pub reached_from : (tear : Tear) (under_way : Underway) (old new : Contents) (asked : Option Call) → IsContentsAt under_way old → asked ≡ under_way.call
-    → files_of new.files.items ≡ files_reached tear asked (files_of old.files.items) → new.said.items ≡ said_reached tear asked old.said.items → IsReached tear under_way new
+    → files_kept new.files.items ≡ files_reached tear asked (files_kept old.files.items) → new.said.items ≡ said_reached tear asked old.said.items → IsReached tear under_way new
 reached_from tear under_way old new asked held is files said = record {
-  files = files ∙ ap (λ call. files_reached tear call (files_of old.files.items)) is ∙ ap (λ (f : Files). files_reached tear under_way.call f) (λ i k. (held.files k) i);
+  files = files ∙ ap (λ call. files_reached tear call (files_kept old.files.items)) is ∙ ap (λ (f : Files). files_reached tear under_way.call f) (λ i k. (held.files k) i);
   said = said ∙ ap (λ call. said_reached tear call old.said.items) is ∙ ap (λ s. said_reached tear under_way.call s) held.said;
 }
 
 -- a file that is kept is at a server of the site
-pub server_of : (servers : ℕ) (kept : List Stored) (i : ℕ) (s : Stored) (files : Files) → i < length kept → s ≡ get_or kept i s → are_apart kept ≡ true → files_of kept ≡ files → IsNowhereElse servers files → s.server < servers
+pub server_of : (servers : ℕ) (kept : List Stored) (i : ℕ) (s : Stored) (files : Files) → i < length kept → s ≡ get_or kept i s → are_apart kept ≡ true → files_kept kept ≡ files → IsNowhereElse servers files → s.server < servers
 server_of servers kept i s files within is apart same nowhere = ⊎_elim
     (λ inside. inside)
-    (λ far. absurd (clash (files_of kept (place_of s)) (ap (λ (t : Stored). files_of kept (place_of t)) is ∙ files_at kept i s within apart) (ap (λ (f : Files). is_some (f (place_of s))) same ∙ nowhere (place_of s) far)))
+    (λ far. absurd (clash (files_kept kept (place_kept s)) (ap (λ (t : Stored). files_kept kept (place_kept t)) is ∙ files_at kept i s within apart) (ap (λ (f : Files). is_some (f (place_kept s))) same ∙ nowhere (place_kept s) far)))
     (cases_lt s.server servers)
   where
     clash : (f : Option File) → f ≡ Some (file_of (get_or kept i s)) → is_some f ≡ false → ⊥
@@ -98,15 +99,15 @@ reached_server servers n i tear entries since contents s within is all reached =
     (nowhere_reached servers tear (at_call n nothing entries since).call (at_call n nothing entries since).files (call_within servers n nothing entries since all) (nowhere_at servers n nothing entries since all (λ k far. refl)))
 
 -- of the files before it none is at its place
-none_before : (kept : List Stored) (i : ℕ) (s : Stored) → i < length kept → s ≡ get_or kept i s → are_apart kept ≡ true → files_of (take i kept) (place_of s) ≡ None
+none_before : (kept : List Stored) (i : ℕ) (s : Stored) → i < length kept → s ≡ get_or kept i s → are_apart kept ≡ true → files_kept (take i kept) (place_kept s) ≡ None
 none_before [] i s within is apart = absurd (omega arith)
 none_before (x ∷ kept) zero s within is apart = refl
 none_before (x ∷ kept) (suc i) s within is apart =
-    behind x (take i kept) (place_of s) (λ e. else_than x kept i s (omega arith) apart (ap (λ (t : Stored). place_of t) (sym is) ∙ e)) ∙ none_before kept i s (omega arith) is (apart_rest x kept apart)
+    behind x (take i kept) (place_kept s) (λ e. else_than x kept i s (omega arith) apart (ap (λ (t : Stored). place_kept t) (sym is) ∙ e)) ∙ none_before kept i s (omega arith) is (apart_rest x kept apart)
 
 -- the site has what is left of the first i files, and what was said
 pub record HasTorn (tear : Tear) (servers i : ℕ) (kept : List Stored) (spoken : List ℕ) (site : MemSite) : Type 0 where
-  pub files : (k : Place) → (disk_at site).files k ≡ firm_of (torn tear (files_of (take i kept) k))
+  pub files : (k : Place) → (disk_at site).files k ≡ firm_of (torn tear (files_kept (take i kept) k))
   pub said : (disk_at site).said ≡ spoken
   pub past : (disk_at site).past ≡ []
   pub unused : IsUnused servers site
@@ -132,21 +133,21 @@ pub spoken_first : (spoken : List ℕ) (servers : ℕ) (fresh site : MemSite) �
 spoken_first spoken servers fresh site is tells = ap (λ (d : Disk). d.said) (tells ∙ ap (λ d. done (told spoken) d) is.disk)
 
 module _ (tear : Tear) (servers i : ℕ) (kept : List Stored) (spoken : List ℕ) (s : Stored) (within : i < length kept) (is : s ≡ get_or kept i s) (apart : are_apart kept ≡ true) where
-  pub torn_absent : (site : MemSite) → HasTorn tear servers i kept spoken site → (disk_at site).files (place_of s) ≡ None
-  torn_absent site far = far.files (place_of s) ∙ ap (λ f. firm_of (torn tear f)) (none_before kept i s within is apart)
+  pub torn_absent : (site : MemSite) → HasTorn tear servers i kept spoken site → (disk_at site).files (place_kept s) ≡ None
+  torn_absent site far = far.files (place_kept s) ∙ ap (λ f. firm_of (torn tear f)) (none_before kept i s within is apart)
 
-  grown : (k : Place) → files_of (take (i + 1) kept) k ≡ put_file (place_of s) (Some (file_of s)) (files_of (take i kept)) k
-  grown k = ap (λ l. files_of l k) (take_more kept i s within ∙ ap (λ x. take i kept ++ x ∷ []) (sym is))
+  grown : (k : Place) → files_kept (take (i + 1) kept) k ≡ put_file (place_kept s) (Some (file_of s)) (files_kept (take i kept)) k
+  grown k = ap (λ l. files_kept l k) (take_more kept i s within ∙ ap (λ x. take i kept ++ x ∷ []) (sym is))
       ∙ files_push (take i kept) s k (none_before kept i s within is apart)
 
-  torn_at : (old : MemSite) → HasTorn tear servers i kept spoken old → (k : Place) → put_file (place_of s) (firm_of (torn_file tear (file_of s))) (disk_at old).files k ≡ firm_of (torn tear (put_file (place_of s) (Some (file_of s)) (files_of (take i kept)) k))
-  torn_at old far k = by_place (place_of s) k
-      (λ e. ap (λ q. put_file (place_of s) (firm_of (torn_file tear (file_of s))) (disk_at old).files q) e ∙ put_here (place_of s) (firm_of (torn_file tear (file_of s))) (disk_at old).files
-      ∙ sym (ap (λ f. firm_of (torn tear f)) (ap (λ q. put_file (place_of s) (Some (file_of s)) (files_of (take i kept)) q) e ∙ put_here (place_of s) (Some (file_of s)) (files_of (take i kept)))))
-      (λ ne off. put_else (place_of s) k (firm_of (torn_file tear (file_of s))) (disk_at old).files ne ∙ far.files k
-      ∙ sym (ap (λ f. firm_of (torn tear f)) (put_else (place_of s) k (Some (file_of s)) (files_of (take i kept)) ne)))
+  torn_at : (old : MemSite) → HasTorn tear servers i kept spoken old → (k : Place) → put_file (place_kept s) (firm_of (torn_file tear (file_of s))) (disk_at old).files k ≡ firm_of (torn tear (put_file (place_kept s) (Some (file_of s)) (files_kept (take i kept)) k))
+  torn_at old far k = by_place (place_kept s) k
+      (λ e. ap (λ q. put_file (place_kept s) (firm_of (torn_file tear (file_of s))) (disk_at old).files q) e ∙ put_here (place_kept s) (firm_of (torn_file tear (file_of s))) (disk_at old).files
+      ∙ sym (ap (λ f. firm_of (torn tear f)) (ap (λ q. put_file (place_kept s) (Some (file_of s)) (files_kept (take i kept)) q) e ∙ put_here (place_kept s) (Some (file_of s)) (files_kept (take i kept)))))
+      (λ ne off. put_else (place_kept s) k (firm_of (torn_file tear (file_of s))) (disk_at old).files ne ∙ far.files k
+      ∙ sym (ap (λ f. firm_of (torn tear f)) (put_else (place_kept s) k (Some (file_of s)) (files_kept (take i kept)) ne)))
 
-  pub torn_more : (old new : MemSite) → HasTorn tear servers i kept spoken old → (disk_at new).files ≡ put_file (place_of s) (firm_of (torn_file tear (file_of s))) (disk_at old).files → (disk_at new).said ≡ (disk_at old).said
+  pub torn_more : (old new : MemSite) → HasTorn tear servers i kept spoken old → (disk_at new).files ≡ put_file (place_kept s) (firm_of (torn_file tear (file_of s))) (disk_at old).files → (disk_at new).said ≡ (disk_at old).said
       → (disk_at new).past ≡ (disk_at old).past → KeepsUnused old new → HasTorn tear servers (i + 1) kept spoken new
   torn_more old new far files said past keeps = record {
     files = λ k. ap (λ (f : Files). f k) files ∙ torn_at old far k ∙ sym (ap (λ f. firm_of (torn tear f)) (grown k));
@@ -159,7 +160,7 @@ module _ (tear : Tear) (servers i : ℕ) (kept : List Stored) (spoken : List ℕ
 pub torn_all : (tear : Tear) (servers n : ℕ) (under_way : Underway) (contents : Contents) (kept : List Stored) (spoken : List ℕ) (site : MemSite) → kept ≡ contents.files.items → spoken ≡ contents.said.items → length kept ≤ n
     → IsReached tear under_way contents → HasTorn tear servers n kept spoken site → IsTorn tear under_way (disk_at site)
 torn_all tear servers n under_way contents kept spoken site same spoke all reached far = record {
-  files = λ k. far.files k ∙ ap (λ (l : List Stored). firm_of (torn tear (files_of l k))) (take_all n kept all ∙ same) ∙ ap (λ (f : Files). firm_of (torn tear (f k))) reached.files;
+  files = λ k. far.files k ∙ ap (λ (l : List Stored). firm_of (torn tear (files_kept l k))) (take_all n kept all ∙ same) ∙ ap (λ (f : Files). firm_of (torn tear (f k))) reached.files;
   said = far.said ∙ spoke ∙ reached.said;
   past = far.past;
 }

@@ -4,7 +4,7 @@ use Rattle.std.proofs.lemmas.Bool.{cases_eq, cases_lt, cond-true, cond-false, eq
 use Rattle.site_model.specs.Disk.{File, Place, Files}
 use Rattle.site_mem.specs.declared.entry.Entry.{Entry}
 use Rattle.site_mem.specs.declared.stored.Stored.{Stored}
-use Rattle.site_mem.specs.Kept.{files_of}
+use Rattle.site_mem.specs.Kept.{files_kept}
 use Rattle.site_mem.specs.Lost.{has_lost, had_lost, files_without, Loses}
 use Rattle.site_mem.specs.Record.{nothing, from, disk_of, AreSame}
 
@@ -31,8 +31,8 @@ module _ {server number : ℕ} {old new : List ℕ} (positive : 0 < number) (is 
       each false true false is = absurd (cc is)
 
   -- what stands goes on with what is lost
-  pub files_less : (kept now : List Stored) (entries more : List Entry) → more ≡ entries → AreSame (files_of kept) (disk_of entries old).files → files_of now ≡ files_without (has_lost new) (files_of kept)
-      → AreSame (files_of now) (disk_of more new).files
+  pub files_less : (kept now : List Stored) (entries more : List Entry) → more ≡ entries → AreSame (files_kept kept) (disk_of entries old).files → files_kept now ≡ files_without (has_lost new) (files_kept kept)
+      → AreSame (files_kept now) (disk_of more new).files
   files_less kept now entries more same_entries same is k =
       ap (λ (f : Files). f k) is ∙ ap (λ f. cond (has_lost new k.0) None f) (same k) ∙ lost_twice k.0 ((from nothing entries).files k)
       ∙ sym (ap (λ (l : List Entry). (disk_of l new).files k) same_entries)

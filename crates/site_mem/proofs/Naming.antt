@@ -6,7 +6,7 @@ use Rattle.std.proofs.lemmas.List.Kept.{AllPairs-cons}
 use Rattle.std.proofs.lemmas.List.{take_more, get_or_default}
 use Rattle.site_model.specs.Disk.{File, Place, Files, IsListOf}
 use Rattle.site_mem.specs.declared.stored.Stored.{Stored}
-use Rattle.site_mem.specs.Kept.{place_of, files_of, are_apart, names_at}
+use Rattle.site_mem.specs.Kept.{place_kept, files_kept, are_apart, names_at}
 use Rattle.site_mem.specs.Record.{AreSame}
 use Rattle.site_mem.proofs.Places.{by_place}
 use Rattle.site_mem.proofs.Keeping.{apart_none, apart_rest, at_first, behind}
@@ -21,19 +21,19 @@ there_cases : {A : Type 0} (x y : A) (xs : List A) → Contains (x ∷ xs) y →
 there_cases x y xs (zero, within, is) = inl (sym is)
 there_cases x y xs (suc k, within, is) = inr (k, omega (arith, within), is)
 
-names_some : (server : ℕ) (name : List ℕ) (kept : List Stored) → Contains (names_at server kept) name → IsSome (files_of kept (server, name))
+names_some : (server : ℕ) (name : List ℕ) (kept : List Stored) → Contains (names_at server kept) name → IsSome (files_kept kept (server, name))
 names_some server name [] is = absurd (omega (arith, is.1))
-names_some server name (s ∷ kept) is = by_place (place_of s) (server, name)
-    (λ e. subst (λ k. IsSome (files_of (s ∷ kept) k)) (sym e) (subst (λ f. IsSome f) (sym (at_first s kept)) refl))
+names_some server name (s ∷ kept) is = by_place (place_kept s) (server, name)
+    (λ e. subst (λ k. IsSome (files_kept (s ∷ kept) k)) (sym e) (subst (λ f. IsSome f) (sym (at_first s kept)) refl))
     (λ ne off. subst (λ f. IsSome f) (sym (behind s kept (server, name) ne)) (names_some server name kept (rest (s.server == server) (λ on. ne) (eqb-true s.server server) is)))
   where
-    rest : (b : Bool) → (b ≡ true → ◌≢◌ {A = Place} (server, name) (place_of s)) → (b ≡ true → s.server ≡ server) → Contains (cond b (string_bytes s.name ∷ names_at server kept) (names_at server kept)) name → Contains (names_at server kept) name
+    rest : (b : Bool) → (b ≡ true → ◌≢◌ {A = Place} (server, name) (place_kept s)) → (b ≡ true → s.server ≡ server) → Contains (cond b (string_bytes s.name ∷ names_at server kept) (names_at server kept)) name → Contains (names_at server kept) name
     rest true ne here is = ⊎_elim (λ e. absurd (ne refl (ap (λ n. (server, n)) e ∙ ap (λ n. (n, string_bytes s.name)) (sym (here refl))))) (λ there. there) (there_cases (string_bytes s.name) name (names_at server kept) is)
     rest false ne here is = is
 
-names_there : (server : ℕ) (name : List ℕ) (kept : List Stored) → IsSome (files_of kept (server, name)) → Contains (names_at server kept) name
+names_there : (server : ℕ) (name : List ℕ) (kept : List Stored) → IsSome (files_kept kept (server, name)) → Contains (names_at server kept) name
 names_there server name [] is = absurd (cc is)
-names_there server name (s ∷ kept) is = by_place (place_of s) (server, name)
+names_there server name (s ∷ kept) is = by_place (place_kept s) (server, name)
     (λ e. subst (λ n. Contains (names_at server (s ∷ kept)) n) (sym (ap (λ (k : Place). k.1) e))
     (subst (λ l. Contains l (string_bytes s.name)) (sym (cond-true (s.server == server) _ _ (eq-eqb s.server server (sym (ap (λ (k : Place). k.0) e))))) (first_there (string_bytes s.name) (names_at server kept))))
     (λ ne off. more (s.server == server) (names_there server name kept (subst (λ f. IsSome f) (behind s kept (server, name) ne) is)))
@@ -52,14 +52,14 @@ names_once server (s ∷ kept) apart = cond_both (s.server == server) (string_by
     shown k d within e = get_or_default (names_at server kept) k (string_bytes s.name) d within ∙ sym e
 
     none_there : s.server ≡ server → Contains (names_at server kept) (string_bytes s.name) → ⊥
-    none_there here is = clash (files_of kept (server, string_bytes s.name)) (names_some server (string_bytes s.name) kept is)
-        (ap (λ n. files_of kept (n, string_bytes s.name)) (sym here) ∙ apart_none s kept apart)
+    none_there here is = clash (files_kept kept (server, string_bytes s.name)) (names_some server (string_bytes s.name) kept is)
+        (ap (λ n. files_kept kept (n, string_bytes s.name)) (sym here) ∙ apart_none s kept apart)
       where
         clash : (f : Option File) → IsSome f → f ≡ None → ⊥
         clash f on none = cc (on, ap (λ g. is_some g) none)
 
 -- the names that were gathered are those of the files
-pub names_list : (server : ℕ) (kept : List Stored) (files : Files) (names : List (List ℕ)) → are_apart kept ≡ true → AreSame (files_of kept) files → names ≡ names_at server kept → IsListOf files server names
+pub names_list : (server : ℕ) (kept : List Stored) (files : Files) (names : List (List ℕ)) → are_apart kept ≡ true → AreSame (files_kept kept) files → names ≡ names_at server kept → IsListOf files server names
 names_list server kept files names apart same is =
     subst (λ l. IsListOf files server l) (sym is)
     (record {

@@ -5,11 +5,11 @@ use Rattle.site_model.specs.Disk.{Place, Files, Disk}
 use Rattle.site_mem.specs.declared.entry.Entry.{Entry}
 use Rattle.site_mem.specs.declared.history.History.{History}
 use Rattle.site_mem.specs.declared.stored.Stored.{Stored}
-use Rattle.site_mem.specs.Kept.{files_of}
+use Rattle.site_mem.specs.Kept.{files_kept}
 use Rattle.site_mem.specs.Events.{Event, event_kept, after, files_after, said_after}
 use Rattle.site_mem.specs.Lost.{has_lost, without}
 use Rattle.site_mem.specs.Record.{nothing, after_entry, from, disk_of, AreSame}
-use Rattle.site_mem.specs.Entered.{IsEntered, IsKept}
+use Rattle.site_mem.specs.Entered.{IsEntered, IsUnentered}
 
 pub from_push : (d : Disk) (entries : List Entry) (e : Entry) → from d (entries ++ e ∷ []) ≡ after_entry (from d entries) e
 from_push d [] e = refl
@@ -45,21 +45,21 @@ module _ {n : ℕ} {b : Bool} {event : Event} {old new : History} where
       ∙ ap (λ (done : Bool). after done (event_kept is.entry.asked) (disk_of old.entries.items old.lost.since)) is.is_done
       ∙ ap (λ (e : Event). after b e (disk_of old.entries.items old.lost.since)) is.event
 
-pub disk_kept : {old new : History} → IsKept old new → disk_of new.entries.items new.lost.since ≡ disk_of old.entries.items old.lost.since
+pub disk_kept : {old new : History} → IsUnentered old new → disk_of new.entries.items new.lost.since ≡ disk_of old.entries.items old.lost.since
 disk_kept {old} {new} is = ap (λ (l : List Entry). disk_of l new.lost.since) is.entries ∙ ap (λ (s : List ℕ). disk_of old.entries.items s) is.lost
 
 -- nothing was asked
-pub starts_files : (kept : List Stored) (entries : List Entry) (since : List ℕ) → kept ≡ [] → entries ≡ [] → ((server : ℕ) → get_or since server 0 ≡ 0) → AreSame (files_of kept) (disk_of entries since).files
+pub starts_files : (kept : List Stored) (entries : List Entry) (since : List ℕ) → kept ≡ [] → entries ≡ [] → ((server : ℕ) → get_or since server 0 ≡ 0) → AreSame (files_kept kept) (disk_of entries since).files
 starts_files kept entries since no_file no_entry none k =
-    ap (λ (l : List Stored). files_of l k) no_file
+    ap (λ (l : List Stored). files_kept l k) no_file
     ∙ sym (ap (λ (d : Disk). d.files k) (ap (λ (l : List Entry). disk_of l since) no_entry ∙ without_none since nothing none))
 
 pub starts_said : (said : List ℕ) (entries : List Entry) (since : List ℕ) → said ≡ [] → entries ≡ [] → said ≡ (disk_of entries since).said
 starts_said said entries since nothing_said no_entry = nothing_said ∙ sym (ap (λ (l : List Entry). (disk_of l since).said) no_entry)
 
 -- nothing changed
-pub files_same : (kept new_kept : List Stored) (entries new_entries : List Entry) (since : List ℕ) → AreSame (files_of kept) (disk_of entries since).files
-    → files_of new_kept ≡ files_of kept → new_entries ≡ entries → AreSame (files_of new_kept) (disk_of new_entries since).files
+pub files_same : (kept new_kept : List Stored) (entries new_entries : List Entry) (since : List ℕ) → AreSame (files_kept kept) (disk_of entries since).files
+    → files_kept new_kept ≡ files_kept kept → new_entries ≡ entries → AreSame (files_kept new_kept) (disk_of new_entries since).files
 files_same kept new_kept entries new_entries since same files is k =
     ap (λ (f : Files). f k) files ∙ same k ∙ sym (ap (λ (l : List Entry). (disk_of l since).files k) is)
 
@@ -71,10 +71,10 @@ module _ (entries new_entries : List Entry) (since now : List ℕ) (e : Entry) (
   grown_disk : disk_of new_entries now ≡ after e.is_done event (disk_of entries since)
   grown_disk = ap (λ (l : List Entry). disk_of l now) is ∙ disk_more entries since now e lost none ∙ ap (λ (v : Event). after e.is_done v (disk_of entries since)) asked
 
-  pub grown_files : (kept new_kept : List Stored) → AreSame (files_of kept) (disk_of entries since).files → files_of new_kept ≡ cond e.is_done (files_after event (files_of kept)) (files_of kept)
-      → AreSame (files_of new_kept) (disk_of new_entries now).files
+  pub grown_files : (kept new_kept : List Stored) → AreSame (files_kept kept) (disk_of entries since).files → files_kept new_kept ≡ cond e.is_done (files_after event (files_kept kept)) (files_kept kept)
+      → AreSame (files_kept new_kept) (disk_of new_entries now).files
   grown_files kept new_kept same files k =
-      files_more e.is_done event (files_of kept) (files_of new_kept) (disk_of entries since) same files k ∙ sym (ap (λ (d : Disk). d.files k) grown_disk)
+      files_more e.is_done event (files_kept kept) (files_kept new_kept) (disk_of entries since) same files k ∙ sym (ap (λ (d : Disk). d.files k) grown_disk)
 
   pub grown_said : (said new_said : List ℕ) → said ≡ (disk_of entries since).said → new_said ≡ cond e.is_done (said_after event said) said → new_said ≡ (disk_of new_entries now).said
   grown_said said new_said same becomes = said_more e.is_done event said new_said (disk_of entries since) same becomes ∙ sym (ap (λ (d : Disk). d.said) grown_disk)

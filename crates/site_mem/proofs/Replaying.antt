@@ -6,7 +6,7 @@ use Rattle.site_model.specs.Disk.{Files, Disk}
 use Rattle.site_mem.specs.declared.entry.Entry.{Entry}
 use Rattle.site_mem.specs.declared.contents.Contents.{Contents}
 use Rattle.site_mem.specs.Events.{event_kept}
-use Rattle.site_mem.specs.Kept.{files_of}
+use Rattle.site_mem.specs.Kept.{files_kept}
 use Rattle.site_mem.specs.Lost.{has_lost, had_lost, files_without}
 use Rattle.site_mem.specs.Record.{nothing, from, after_entry, AreSame}
 use Rattle.site_mem.specs.Calls.{Underway, at_call, call_of}
@@ -20,12 +20,12 @@ on_ok_both (Err e) both a b = tt
 
 -- the contents are those of the disk
 pub record IsHeld (d : Disk) (contents : Contents) : Type 0 where
-  pub files : AreSame (files_of contents.files.items) d.files
+  pub files : AreSame (files_kept contents.files.items) d.files
   pub said : contents.said.items ≡ d.said
 
 pub held_more : (d : Disk) (e : Entry) (old new : Contents) → IsHeld d old → Replays e old new → IsHeld (after_entry d e) new
 held_more d e old new held is = record {
-  files = files_more e.is_done (event_kept e.asked) (files_without (has_lost e.lost.since) (files_of old.files.items)) (files_of new.files.items)
+  files = files_more e.is_done (event_kept e.asked) (files_without (has_lost e.lost.since) (files_kept old.files.items)) (files_kept new.files.items)
       (record { files = files_without (has_lost e.lost.since) d.files; said = d.said; past = d.past })
       (λ k. ap (λ f. cond (has_lost e.lost.since k.0) None f) (held.files k)) is.files;
   said = said_more e.is_done (event_kept e.asked) old.said.items new.said.items
@@ -39,7 +39,7 @@ pub record IsSoFar (number i : ℕ) (entries : List Entry) (since : List ℕ) (c
 
 pub so_far_none : (number : ℕ) (entries : List Entry) (since : List ℕ) (contents : Contents) → contents.files.items ≡ [] → contents.said.items ≡ [] → IsSoFar number 0 entries since contents
 so_far_none number entries since contents no_file nothing_said = record {
-  held = record { files = λ k. ap (λ l. files_of l k) no_file; said = nothing_said };
+  held = record { files = λ k. ap (λ l. files_kept l k) no_file; said = nothing_said };
   rest = refl;
 }
 
@@ -58,7 +58,7 @@ module _ (number i : ℕ) (entries : List Entry) (since : List ℕ) (e : Entry) 
         ∙ ap (λ d. at_call number d (drop (i + 1) entries) since) (sym next_disk);
   }
 
-  pub so_far_end : (old new : Contents) → number ≤ e.number → IsSoFar number i entries since old → files_of new.files.items ≡ files_without (had_lost e.lost.since number) (files_of old.files.items) → new.said.items ≡ old.said.items
+  pub so_far_end : (old new : Contents) → number ≤ e.number → IsSoFar number i entries since old → files_kept new.files.items ≡ files_without (had_lost e.lost.since number) (files_kept old.files.items) → new.said.items ≡ old.said.items
       → IsContentsAt (at_call number nothing entries since) new
   so_far_end old new later far files said = subst (λ u. IsContentsAt u new)
       (sym (far.rest ∙ ap (λ l. at_call number (from nothing (take i entries)) l since) next_rest ∙ cond-false (nat_lt e.number number) _ _ (le-ltb e.number number later)))
@@ -67,7 +67,7 @@ module _ (number i : ℕ) (entries : List Entry) (since : List ℕ) (e : Entry) 
         said = said ∙ far.held.said;
       })
 
-pub so_far_all : (number n : ℕ) (entries : List Entry) (since : List ℕ) (old new : Contents) → length entries ≤ n → IsSoFar number n entries since old → files_of new.files.items ≡ files_without (had_lost since number) (files_of old.files.items) → new.said.items ≡ old.said.items
+pub so_far_all : (number n : ℕ) (entries : List Entry) (since : List ℕ) (old new : Contents) → length entries ≤ n → IsSoFar number n entries since old → files_kept new.files.items ≡ files_without (had_lost since number) (files_kept old.files.items) → new.said.items ≡ old.said.items
     → IsContentsAt (at_call number nothing entries since) new
 so_far_all number n entries since old new all far files said = subst (λ u. IsContentsAt u new)
     (sym (far.rest ∙ ap (λ l. at_call number (from nothing (take n entries)) l since) (drop_all n entries all)))

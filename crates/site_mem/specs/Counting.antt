@@ -2,15 +2,7 @@
 use Rattle.std.specs.Prelude.{◌≡◌, ℕ, ◌+◌, ◌-◌, ◌^◌, ◌<◌, nat_lt, ◌&&◌, Bool, true, min, length, slice_index}
 use Rattle.site_model.specs.Counts.{Counts, CountsWrite, CountsSay}
 use Rattle.site_model.specs.Disk.{appends, syncs, cuts, renames, removes, says}
-use Rattle.site_mem.specs.declared.tally.Tally.{Tally}
 use Rattle.site_mem.specs.Events.{Event, added, told, called}
-
-abbrev pub counts_of : Tally → Counts
-counts_of t = record { faults = λ s. slice_index t.faults s; write_faults = λ s. slice_index t.write_faults s; say_faults = t.say_faults; calls = t.calls; widest = t.widest }
-
--- the number of the next call, which ends at its type's last value
-abbrev pub next_call : Tally → ℕ
-next_call t = min (t.calls + 1) (2 ^ 64 - 1)
 
 -- it names servers below this number alone
 abbrev pub IsWithin : ℕ → Event → Type 0
@@ -48,11 +40,3 @@ CountsEvent (called (cuts p n)) old new is_failed = CountsWrite p.0 0 old new is
 CountsEvent (called (renames p q)) old new is_failed = CountsWrite p.0 0 old new is_failed
 CountsEvent (called (removes p)) old new is_failed = CountsWrite p.0 0 old new is_failed
 CountsEvent (called (says bytes)) old new is_failed = CountsSay old new is_failed
-
--- nothing was counted
-pub record AreNone (c : Counts) : Type 0 where
-  pub faults : (s : ℕ) → c.faults s ≡ 0
-  pub write_faults : (s : ℕ) → c.write_faults s ≡ 0
-  pub say_faults : c.say_faults ≡ 0
-  pub calls : c.calls ≡ 0
-  pub widest : c.widest ≡ 0

@@ -15,6 +15,6 @@ pub record IsEntered (n : ℕ) (b : Bool) (asked : Event) (old new : History) : 
   pub emptied : (server : ℕ) → slice_index new.lost.since server ≡ 0
 
 -- no entry more
-pub record IsKept (old new : History) : Type 0 where
+pub record IsUnentered (old new : History) : Type 0 where
   pub entries : new.entries.items ≡ old.entries.items
   pub lost : new.lost.since ≡ old.lost.since

@@ -5,26 +5,26 @@ use Rattle.site_model.specs.Disk.{File, Place, Files}
 use Rattle.site_mem.specs.declared.stored.Stored.{Stored}
 use Rattle.site_mem.specs.Events.{is_place}
 
-abbrev pub place_of : Stored → Place
-place_of s = (s.server, string_bytes s.name)
+abbrev pub place_kept : Stored → Place
+place_kept s = (s.server, string_bytes s.name)
 
 abbrev pub file_of : Stored → File
 file_of s = record { bytes = s.bytes.items; firm = s.firm; is_named = s.is_named }
 
 -- the first file that stands at a place
-abbrev pub files_of : List Stored → Files
-files_of [] k = None
-files_of (s ∷ kept) k = if is_place (place_of s) k then Some (file_of s) else files_of kept k
+abbrev pub files_kept : List Stored → Files
+files_kept [] k = None
+files_kept (s ∷ kept) k = if is_place (place_kept s) k then Some (file_of s) else files_kept kept k
 
 -- no place has two files
 abbrev pub are_apart : List Stored → Bool
 are_apart [] = true
-are_apart (s ∷ kept) = not (is_some (files_of kept (place_of s))) && are_apart kept
+are_apart (s ∷ kept) = not (is_some (files_kept kept (place_kept s))) && are_apart kept
 
 -- the file of this place is kept there
 pub record IsAt (kept : List Stored) (at : ℕ) (p : Place) : Type 0 where
   pub within : at < length kept
-  pub place : (d : Stored) → place_of (slice_index_or kept at d) ≡ p
+  pub place : (d : Stored) → place_kept (slice_index_or kept at d) ≡ p
 
 -- what a look-up answers
 abbrev pub found : Option (Bor Stored) → Option File

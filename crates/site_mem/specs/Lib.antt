@@ -2,13 +2,13 @@ pub mod Events
 pub mod Kept
 pub mod Lost
 pub mod Record
+pub mod History
 pub mod Entered
 pub mod Counting
 pub mod Failing
 pub mod Effects
 pub mod Calls
 pub mod Site
-pub mod Fits
 pub mod Source
 pub mod Torn
 pub mod Replayed

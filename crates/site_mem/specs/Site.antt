@@ -8,7 +8,7 @@ use Rattle.site_mem.specs.Events.{Event}
 use Rattle.site_mem.specs.Record.{nothing}
 use Rattle.site_mem.specs.Held.{disk_held, call_held, loss_held}
 use Rattle.site_mem.specs.Calls.{Underway, call_of, Begins}
-use Rattle.site_mem.specs.Counting.{counts_of, next_call, AreNone}
+use Rattle.site_model.specs.Tallies.{counts_of, next_call, AreNone}
 use Rattle.site_mem.specs.Failing.{lists, lists_read}
 
 -- the files, what was said, and the calls so far

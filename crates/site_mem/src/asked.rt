@@ -1,4 +1,4 @@
-// What a site is asked, with its names and bytes borrowed or kept.
+//! What a site is asked, with its names and bytes borrowed or kept.
 ghost use Rattle.std.specs.Prelude.{◌≡◌, IfOk};
 ghost use Rattle.site_mem.specs.Events.{event_now, event_kept};
 

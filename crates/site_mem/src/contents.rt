@@ -1,4 +1,4 @@
-// The files that stand, and what was said.
+//! The files that stand, and what was said.
 ghost use Rattle.std.specs.Prelude.{IsTrue};
 ghost use Rattle.site_mem.specs.Kept.{are_apart};
 
@@ -23,7 +23,7 @@ impl Contents {
     ghost use Rattle.site_mem.specs.Torn.{files_reached, said_reached, said_part};
     ghost use Rattle.site_mem.specs.Asking.{call_asked};
     ghost use Rattle.site_mem.specs.Lost.{has_lost, had_lost, files_without};
-    ghost use Rattle.site_mem.specs.Kept.{files_of, file_of, place_of, IsAt, MakesRoom, found, names_at};
+    ghost use Rattle.site_mem.specs.Kept.{files_kept, file_of, place_kept, IsAt, MakesRoom, found, names_at};
 
     pub fn new(alloc: Global) -> Self
         ensures files { result.files.items ≡ [] }
@@ -38,7 +38,7 @@ impl Contents {
     // Where the file is kept.
     #[tactic(auto, using(crate::proofs::Keeping::none_more, crate::proofs::Keeping::none_all))]
     fn position(&self, server: u32, name: &str) -> Option<usize>
-        ensures { MatchOption result (files_of self.now.files.items (server, name.now) ≡ None)
+        ensures { MatchOption result (files_kept self.now.files.items (server, name.now) ≡ None)
             (λ at. IsAt self.now.files.items at (server, name.now)) }
     {
         for (at, file) in self.files.iter().enumerate() {
@@ -51,7 +51,7 @@ impl Contents {
 
     /// The file of this name at this server.
     pub fn file(&self, server: u32, name: &str) -> Option<&Stored>
-        ensures { found result ≡ files_of self.now.files.items (server, name.now) }
+        ensures { found result ≡ files_kept self.now.files.items (server, name.now) }
     {
         match self.position(server, name) {
             Some(at) => Some(&self.files[at]),
@@ -61,9 +61,9 @@ impl Contents {
 
     // This file at its place.
     fn put(&mut self, file: Stored) -> Result<(), AllocError>
-        ensures ok { OnOk result (files_of self.new.files.items ≡ put_file (place_of file)
-            (Some (file_of file)) (files_of self.old.files.items)) }
-        ensures err { OnErr result (files_of self.new.files.items ≡ files_of self.old.files.items) }
+        ensures ok { OnOk result (files_kept self.new.files.items ≡ put_file (place_kept file)
+            (Some (file_of file)) (files_kept self.old.files.items)) }
+        ensures err { OnErr result (files_kept self.new.files.items ≡ files_kept self.old.files.items) }
         ensures said { self.new.said.items ≡ self.old.said.items }
     {
         match self.position(file.server, file.name.as_str()) {
@@ -81,10 +81,10 @@ impl Contents {
         name: &str,
         bytes: &[u8],
     ) -> Result<(), AllocError>
-        ensures ok { OnOk result (files_of self.new.files.items ≡ put_file (server, name.now)
-            (Some (grown (files_of self.old.files.items (server, name.now)) bytes.now))
-            (files_of self.old.files.items)) }
-        ensures err { OnErr result (files_of self.new.files.items ≡ files_of self.old.files.items) }
+        ensures ok { OnOk result (files_kept self.new.files.items ≡ put_file (server, name.now)
+            (Some (grown (files_kept self.old.files.items (server, name.now)) bytes.now))
+            (files_kept self.old.files.items)) }
+        ensures err { OnErr result (files_kept self.new.files.items ≡ files_kept self.old.files.items) }
         ensures said { self.new.said.items ≡ self.old.said.items }
     {
         match self.position(server, name) {
@@ -101,8 +101,8 @@ impl Contents {
 
     // Makes a file firm.
     fn sync(&mut self, server: u32, name: &str)
-        ensures files { files_of self.new.files.items ≡ put_file (server, name.now)
-            (synced (files_of self.old.files.items (server, name.now))) (files_of self.old.files.items) }
+        ensures files { files_kept self.new.files.items ≡ put_file (server, name.now)
+            (synced (files_kept self.old.files.items (server, name.now))) (files_kept self.old.files.items) }
         ensures said { self.new.said.items ≡ self.old.said.items }
     {
         if let Some(at) = self.position(server, name) {
@@ -112,9 +112,9 @@ impl Contents {
 
     // Ends a file at this length.
     fn cut(&mut self, server: u32, name: &str, length: u64)
-        ensures files { files_of self.new.files.items ≡ put_file (server, name.now)
-            (cut_to length (files_of self.old.files.items (server, name.now)))
-            (files_of self.old.files.items) }
+        ensures files { files_kept self.new.files.items ≡ put_file (server, name.now)
+            (cut_to length (files_kept self.old.files.items (server, name.now)))
+            (files_kept self.old.files.items) }
         ensures said { self.new.said.items ≡ self.old.said.items }
     {
         if let Some(at) = self.position(server, name) {
@@ -124,8 +124,8 @@ impl Contents {
 
     // A file less.
     fn remove(&mut self, server: u32, name: &str)
-        ensures files { files_of self.new.files.items ≡ put_file (server, name.now) None
-            (files_of self.old.files.items) }
+        ensures files { files_kept self.new.files.items ≡ put_file (server, name.now) None
+            (files_kept self.old.files.items) }
         ensures said { self.new.said.items ≡ self.old.said.items }
     {
         if let Some(at) = self.position(server, name) {
@@ -135,8 +135,8 @@ impl Contents {
 
     // Nothing stands under the new name but the file itself.
     fn make_room(&mut self, server: u32, old: &str, new: &str)
-        ensures files { MakesRoom (server, old.now) (server, new.now) (files_of self.old.files.items)
-            (files_of self.new.files.items) }
+        ensures files { MakesRoom (server, old.now) (server, new.now) (files_kept self.old.files.items)
+            (files_kept self.new.files.items) }
         ensures said { self.new.said.items ≡ self.old.said.items }
     {
         if old != new {
@@ -146,10 +146,10 @@ impl Contents {
 
     // Gives a file another name.
     fn rename(&mut self, alloc: Global, server: u32, old: &str, new: &str) -> Result<(), AllocError>
-        ensures ok { OnOk result (files_of self.new.files.items ≡ put_file (server, new.now)
-            (files_of self.old.files.items (server, old.now))
-            (put_file (server, old.now) None (files_of self.old.files.items))) }
-        ensures err { OnErr result (files_of self.new.files.items ≡ files_of self.old.files.items) }
+        ensures ok { OnOk result (files_kept self.new.files.items ≡ put_file (server, new.now)
+            (files_kept self.old.files.items (server, old.now))
+            (put_file (server, old.now) None (files_kept self.old.files.items))) }
+        ensures err { OnErr result (files_kept self.new.files.items ≡ files_kept self.old.files.items) }
         ensures said { self.new.said.items ≡ self.old.said.items }
     {
         let name = new.to_string(alloc)?;
@@ -163,11 +163,11 @@ impl Contents {
     /// Carries out what is asked. Where a file is missing that is asked for, nothing happens, but that a file
     /// that stood under a new name is gone.
     pub fn carry_out(&mut self, alloc: Global, request: &Request<'_>) -> Result<(), AllocError>
-        ensures files { OnOk result (files_of self.new.files.items ≡ files_after (event_now request.now)
-            (files_of self.old.files.items)) }
+        ensures files { OnOk result (files_kept self.new.files.items ≡ files_after (event_now request.now)
+            (files_kept self.old.files.items)) }
         ensures said { OnOk result (self.new.said.items ≡ said_after (event_now request.now)
             self.old.said.items) }
-        ensures err_files { OnErr result (files_of self.new.files.items ≡ files_of self.old.files.items) }
+        ensures err_files { OnErr result (files_kept self.new.files.items ≡ files_kept self.old.files.items) }
         ensures err_said { OnErr result (self.new.said.items ≡ self.old.said.items) }
     {
         match request {
@@ -210,13 +210,13 @@ impl Contents {
         request: &Request<'_>,
         is_done: bool,
     ) -> Result<(), AllocError>
-        ensures files { OnOk result (files_of self.new.files.items
-            ≡ (if is_done then files_after (event_now request.now) (files_of self.old.files.items)
-            else files_of self.old.files.items)) }
+        ensures files { OnOk result (files_kept self.new.files.items
+            ≡ (if is_done then files_after (event_now request.now) (files_kept self.old.files.items)
+            else files_kept self.old.files.items)) }
         ensures said { OnOk result (self.new.said.items
             ≡ (if is_done then said_after (event_now request.now) self.old.said.items
             else self.old.said.items)) }
-        ensures err_files { OnErr result (files_of self.new.files.items ≡ files_of self.old.files.items) }
+        ensures err_files { OnErr result (files_kept self.new.files.items ≡ files_kept self.old.files.items) }
         ensures err_said { OnErr result (self.new.said.items ≡ self.old.said.items) }
     {
         if !is_done {
@@ -238,8 +238,8 @@ impl Contents {
 
     /// The files at the servers that lost theirs are gone.
     pub fn lose(&mut self, losses: &Losses)
-        ensures files { files_of self.new.files.items ≡ files_without (has_lost losses.now.since)
-            (files_of self.old.files.items) }
+        ensures files { files_kept self.new.files.items ≡ files_without (has_lost losses.now.since)
+            (files_kept self.old.files.items) }
         ensures said { self.new.said.items ≡ self.old.said.items }
     {
         self.files.retain(|file| !losses.has_lost(file.server));
@@ -247,8 +247,8 @@ impl Contents {
 
     /// The files at the servers that had lost theirs before the call with this number are gone.
     pub fn lose_by(&mut self, losses: &Losses, number: u64)
-        ensures files { files_of self.new.files.items ≡ files_without (had_lost losses.now.since number)
-            (files_of self.old.files.items) }
+        ensures files { files_kept self.new.files.items ≡ files_without (had_lost losses.now.since number)
+            (files_kept self.old.files.items) }
         ensures said { self.new.said.items ≡ self.old.said.items }
     {
         self.files
@@ -262,8 +262,8 @@ impl Contents {
         asked: Option<&Recorded>,
         tear: Tear,
     ) -> Result<(), AllocError>
-        ensures files { OnOk result (files_of self.new.files.items ≡ files_reached tear
-            (call_asked asked.entry) (files_of self.old.files.items)) }
+        ensures files { OnOk result (files_kept self.new.files.items ≡ files_reached tear
+            (call_asked asked.entry) (files_kept self.old.files.items)) }
         ensures said { OnOk result (self.new.said.items ≡ said_reached tear (call_asked asked.entry)
             self.old.said.items) }
     {
@@ -284,7 +284,7 @@ impl Contents {
 
     // Says as much of some bytes as a stop finds said.
     fn say_part(&mut self, bytes: &[u8], tear: Tear) -> Result<(), AllocError>
-        ensures files { files_of self.new.files.items ≡ files_of self.old.files.items }
+        ensures files { files_kept self.new.files.items ≡ files_kept self.old.files.items }
         ensures said { OnOk result (self.new.said.items ≡ self.old.said.items ++ said_part tear bytes.now) }
     {
         match tear {

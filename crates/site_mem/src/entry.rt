@@ -1,4 +1,4 @@
-// One line of the record.
+//! One line of the record.
 use crate::asked::Recorded;
 use crate::losses::Losses;
 

@@ -1,8 +1,10 @@
-// A record of all that was asked, and what stands by it.
+//! A record of all that was asked, and what stands by it.
 ghost use Rattle.std.specs.Prelude.{◌≡◌, OnOk};
 ghost use Rattle.site_mem.specs.Replayed.{Replays};
-ghost use Rattle.site_mem.specs.Kept.{files_of};
-ghost use Rattle.site_mem.specs.Record.{disk_of, AreSame, AreSame-prop};
+ghost use Rattle.site_mem.specs.Kept.{files_kept};
+ghost use Rattle.site_mem.specs.History.{HasFiles, HasFiles-prop};
+ghost use Rattle.site_mem.specs.Record.{disk_of};
+ghost use Rattle.site_model.specs.Counts.{max_servers};
 
 use crate::asked::{Recorded, Request, recorded, request_of};
 use crate::contents::Contents;
@@ -17,7 +19,7 @@ pub struct History {
     /// What was lost since the last entry.
     pub lost: Losses,
     pub contents: Contents,
-    ghost files: { AreSame (files_of contents.files.items) (disk_of entries.items lost.since).files } by { AreSame-prop (files_of contents.files.items) (disk_of entries.items lost.since).files },
+    ghost files: { HasFiles contents entries lost } by { HasFiles-prop contents entries lost },
     ghost said: { contents.said.items ≡ (disk_of entries.items lost.since).said },
 }
 
@@ -26,7 +28,7 @@ impl History {
     ghost use Rattle.site_mem.specs.Events.{event_now};
     ghost use Rattle.site_mem.specs.Record.{nothing, disk_of};
     ghost use Rattle.site_mem.specs.Calls.{at_call, loses_after};
-    ghost use Rattle.site_mem.specs.Entered.{IsEntered, IsKept};
+    ghost use Rattle.site_mem.specs.Entered.{IsEntered, IsUnentered};
     ghost use Rattle.site_mem.specs.Lost.{Loses};
     ghost use Rattle.site_mem.specs.Replayed.{IsContentsAt};
     ghost use Rattle.site_mem.specs.Asking.{call_asked};
@@ -51,7 +53,7 @@ impl History {
         is_done: bool,
     ) -> Result<(), AllocError>
         ensures ok { OnOk result (IsEntered number is_done (event_now request.now) self.old self.new) }
-        ensures err { OnErr result (IsKept self.old self.new) }
+        ensures err { OnErr result (IsUnentered self.old self.new) }
     {
         self.entries.push(Entry {
             number,
@@ -69,7 +71,7 @@ impl History {
 
     /// The server's files are lost, before the call with this number.
     pub fn lose(&mut self, server: u32, number: u64)
-        requires server { server < 64 }
+        requires server { server < max_servers }
         requires number { 0 < number }
         ensures entries { self.new.entries.items ≡ self.old.entries.items }
         ensures lost { Loses server number self.old.lost.since self.new.lost.since }

@@ -4,6 +4,7 @@
 mod asked;
 mod clock;
 mod contents;
+mod counting;
 mod entry;
 mod history;
 mod listed;
@@ -11,7 +12,6 @@ mod losses;
 mod mem;
 mod source;
 mod stored;
-mod tally;
 mod tear;
 
 pub use clock::FixedClock;

@@ -1,7 +1,9 @@
-// Which calls are to fail.
+//! Which calls are to fail.
 ghost use Rattle.std.specs.Prelude.{◌≡◌, ◌≢◌, ◌<◌, ◌||◌, ◌==◌, ℕ, false, Option, Some, None, OnOk, OnErr, slice_index_or};
 ghost use Rattle.site_mem.specs.Failing.{lists, lists_read, lower};
+ghost use Rattle.site_model.specs.Counts.{max_servers};
 
+use site_model::PLACES;
 use std::alloc::{AllocError, Global};
 
 /// The calls that are to fail, by their numbers.
@@ -9,7 +11,7 @@ use std::alloc::{AllocError, Global};
 pub struct Listed {
     pub calls: Vec<u64>,
     /// By server the number from which on each read fails.
-    pub reads: [Option<u64>; 64],
+    pub reads: [Option<u64>; PLACES],
 }
 
 impl Listed {
@@ -19,7 +21,7 @@ impl Listed {
     {
         Listed {
             calls: Vec::new(alloc),
-            reads: [None; 64],
+            reads: [None; PLACES],
         }
     }
 
@@ -36,7 +38,7 @@ impl Listed {
 
     /// Each read at the server fails from the call with this number on.
     pub fn add_reads(&mut self, server: u32, from: u64)
-        requires { server < 64 }
+        requires { server < max_servers }
         ensures here { slice_index_or self.new.reads server None
             ≡ Some (lower from (slice_index_or self.old.reads server None)) }
         ensures others { (other : ℕ) → other ≢ server
@@ -57,7 +59,7 @@ impl Listed {
     }
 
     pub fn has_read(&self, server: u32, number: u64) -> bool
-        requires { server < 64 }
+        requires { server < max_servers }
         ensures { result ≡ (lists self.now.calls.items number || lists_read
             (slice_index_or self.now.reads server None) number) }
     {

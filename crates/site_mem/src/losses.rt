@@ -1,23 +1,26 @@
-// Which servers lost their files, and when.
+//! Which servers lost their files, and when.
 ghost use Rattle.std.specs.Prelude.{◌≡◌, ◌≢◌, ◌<◌, ℕ, nat_lt, if◌then◌else◌, slice_index};
 ghost use Rattle.site_mem.specs.Lost.{has_lost, had_lost, has_lost_after};
+ghost use Rattle.site_model.specs.Counts.{max_servers};
+
+use site_model::PLACES;
 
 /// By server the number of the first call that found its files lost, and 0 where they weren't.
 #[derive(Clone, Copy)]
 pub struct Losses {
-    pub since: [u64; 64],
+    pub since: [u64; PLACES],
 }
 
 impl Losses {
     pub fn none() -> Self
         ensures { (server : ℕ) → slice_index result.since server ≡ 0 }
     {
-        Losses { since: [0; 64] }
+        Losses { since: [0; PLACES] }
     }
 
     /// The server's files are lost, before the call with this number.
     pub fn add(&mut self, server: u32, number: u64)
-        requires server { server < 64 }
+        requires server { server < max_servers }
         requires number { 0 < number }
         ensures here { slice_index self.new.since server
             ≡ (if nat_lt 0 (slice_index self.old.since server) then slice_index self.old.since server

@@ -1,14 +1,15 @@
-// A site in memory.
+//! A site in memory.
 ghost use Rattle.std.specs.Prelude.{◌≡◌, ◌+◌, ◌<◌, ◌≤◌, ℕ, IsTrue, slice_index};
 ghost use Rattle.site_mem.specs.Calls.{are_numbered, are_within, are_calls};
+ghost use Rattle.site_model.specs.Counts.{max_servers};
 
 use crate::asked::{Asked, Request};
+use crate::counting::count;
 use crate::history::History;
 use crate::listed::Listed;
 use crate::stored::Stored;
-use crate::tally::Tally;
 use crate::tear::Tear;
-use site_model::{Failed, Site, SiteError};
+use site_model::{Failed, Site, SiteError, Tally};
 use std::alloc::{AllocError, Global};
 
 /// A site in memory, which tells its contents. It keeps its files and a record of all calls that change them.
@@ -22,7 +23,7 @@ pub struct MemSite {
     tally: Tally,
     wants: u64,
     ghost some: { 0 < servers },
-    ghost few: { servers ≤ 64 },
+    ghost few: { servers ≤ max_servers },
     ghost numbered: { IsTrue (are_numbered tally.calls history.entries.items) },
     ghost since: { (server : ℕ) → slice_index history.lost.since server ≤ tally.calls + 1 },
     ghost within: { IsTrue (are_within servers history.entries.items) },
@@ -57,7 +58,7 @@ impl MemSite {
             .is_ok();
         let failed = is_listed | !entered;
         self.wants = self.wants.saturating_add(u64::from(!is_listed & !entered));
-        self.tally.count(&request, failed);
+        count(&mut self.tally, &request, failed);
         if failed { Err(Failed) } else { Ok(()) }
     }
 
@@ -106,7 +107,7 @@ impl MemSite {
     ghost use Rattle.std.specs.Prelude.{◌≡◌, ◌≢◌, ◌<◌, ◌≤◌, ◌||◌, ◌==◌, if◌then◌else◌, ℕ, false, [], Some, None, IfOk, OnOk, OnErr, min};
     ghost use Rattle.site_model.specs.Disk.{Place, standing};
     ghost use Rattle.site_mem.specs.Events.{added, told, done, put_file};
-    ghost use Rattle.site_mem.specs.Kept.{seen, place_of, file_of};
+    ghost use Rattle.site_mem.specs.Kept.{seen, place_kept, file_of};
     ghost use Rattle.site_mem.specs.Torn.{IsTorn, IsLeftBy, torn_file, firm_of};
     ghost use Rattle.site_mem.specs.Failing.{lower};
     ghost use Rattle.site_mem.specs.Site.{disk_at, counts_at, wants_at, fails_at, reads_fail_at, call_at, loses_at, IsLeftSinceStart, IsFresh, IsUnused, KeepsUnused, KeepsAll, KeepsListed, KeepsCounts, KeepsCalls};
@@ -115,7 +116,7 @@ impl MemSite {
     #[tactic(auto, unfolding(crate::specs::Held::disk_held))]
     pub fn new(alloc: Global, servers: u32) -> Result<MemSite, AllocError>
         requires some { 0 < servers }
-        requires few { servers ≤ 64 }
+        requires few { servers ≤ max_servers }
         ensures { IfOk result (IsFresh servers) }
     {
         Ok(MemSite {
@@ -232,8 +233,8 @@ impl MemSite {
     fn add_torn(&mut self, alloc: Global, file: &Stored, tear: Tear) -> Result<(), AllocError>
         requires server { file.now.server < self.old.servers }
         requires none_made { (counts_at self.old).calls ≡ 0 }
-        requires absent { (disk_at self.old).files (place_of file.now) ≡ None }
-        ensures files { OnOk result ((disk_at self.new).files ≡ put_file (place_of file.now)
+        requires absent { (disk_at self.old).files (place_kept file.now) ≡ None }
+        ensures files { OnOk result ((disk_at self.new).files ≡ put_file (place_kept file.now)
             (firm_of (torn_file tear (file_of file.now))) (disk_at self.old).files) }
         ensures said { OnOk result ((disk_at self.new).said ≡ (disk_at self.old).said) }
         ensures past { OnOk result ((disk_at self.new).past ≡ (disk_at self.old).past) }

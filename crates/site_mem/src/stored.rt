@@ -1,4 +1,4 @@
-// One file.
+//! One file.
 ghost use Rattle.std.specs.Prelude.{◌≤◌, length};
 ghost use Rattle.site_model.specs.Disk.{AreBytes};
 ghost use Rattle.std.proofs.Props.{props};
@@ -24,12 +24,12 @@ impl Stored {
     ghost use Rattle.std.specs.Prelude.{◌≡◌, ◌++◌, ◌∷◌, [], map, Some, IfOk, OnOk, OnErr, string_bytes};
     ghost use Rattle.site_model.specs.Disk.{grown, synced, cut_to, firm_file};
     ghost use Rattle.site_mem.specs.Events.{is_place};
-    ghost use Rattle.site_mem.specs.Kept.{file_of, place_of, names_at};
+    ghost use Rattle.site_mem.specs.Kept.{file_of, place_kept, names_at};
     ghost use Rattle.site_mem.specs.Torn.{torn_file, bytes_left};
 
     /// A firm file of these bytes.
     pub fn firm(alloc: Global, server: u32, name: &str, bytes: &[u8]) -> Result<Self, AllocError>
-        ensures place { IfOk result (λ file. place_of file ≡ (server, name.now)) }
+        ensures place { IfOk result (λ file. place_kept file ≡ (server, name.now)) }
         ensures file { IfOk result (λ file. file_of file ≡ firm_file bytes.now) }
     {
         Ok(Stored {
@@ -43,14 +43,14 @@ impl Stored {
 
     /// Whether it is the file of this name at this server.
     pub fn is_at(&self, server: u32, name: &str) -> bool
-        ensures { result ≡ is_place (place_of self.now) (server, name.now) }
+        ensures { result ≡ is_place (place_kept self.now) (server, name.now) }
     {
         self.server == server && self.name.as_str() == name
     }
 
     /// Puts bytes behind its own.
     pub fn grow(&mut self, bytes: &[u8]) -> Result<(), AllocError>
-        ensures place { place_of self.new ≡ place_of self.old }
+        ensures place { place_kept self.new ≡ place_kept self.old }
         ensures ok { OnOk result (file_of self.new ≡ grown (Some (file_of self.old)) bytes.now) }
         ensures err { OnErr result (file_of self.new ≡ file_of self.old) }
     {
@@ -60,7 +60,7 @@ impl Stored {
 
     /// Makes it firm.
     pub fn sync(&mut self)
-        ensures place { place_of self.new ≡ place_of self.old }
+        ensures place { place_kept self.new ≡ place_kept self.old }
         ensures file { Some (file_of self.new) ≡ synced (Some (file_of self.old)) }
     {
         self.firm = self.bytes.len();
@@ -69,7 +69,7 @@ impl Stored {
 
     /// Ends it at this length, or leaves it where it ends before.
     pub fn cut(&mut self, length: u64)
-        ensures place { place_of self.new ≡ place_of self.old }
+        ensures place { place_kept self.new ≡ place_kept self.old }
         ensures file { Some (file_of self.new) ≡ cut_to length (Some (file_of self.old)) }
     {
         let length = length as usize;
@@ -79,7 +79,7 @@ impl Stored {
 
     /// Gives it another name.
     pub fn set_name(&mut self, name: String)
-        ensures place { place_of self.new ≡ (self.old.server, string_bytes name) }
+        ensures place { place_kept self.new ≡ (self.old.server, string_bytes name) }
         ensures file { file_of self.new ≡ file_of self.old }
     {
         self.name = name;

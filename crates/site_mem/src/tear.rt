@@ -1,4 +1,4 @@
-// What a stop makes of bytes that aren't firm.
+//! What a stop makes of bytes that aren't firm.
 
 /// What stays of the bytes that aren't firm.
 #[derive(Clone, Copy, Debug, PartialEq, Eq)]

@@ -1,4 +1,4 @@
-// The outside in memory, run.
+//! The outside in memory, run.
 ghost use Rattle.std.specs.Prelude.{◌<◌, ◌≤◌};
 ghost use Rattle.site_mem.specs.Site.{counts_at};
 

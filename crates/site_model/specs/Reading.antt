@@ -19,10 +19,3 @@ pub record Reads (n : ℕ) (out : List ℕ) (old new : Option (List ℕ)) : Type
 pub record FaultsRise (old new : ℕ) (is_failed : Type 0) : Type 0 where
   pub later : old ≤ new
   pub failed : is_failed → Rose old new
-
--- one call after another that didn't fail
-pub faults_on : {old mid new : ℕ} {F G : Type 0} → FaultsRise old mid F → FaultsRise mid new G → FaultsRise old new G
-faults_on first second = record {
-  later = omega (arith, first.later, second.later);
-  failed = λ f. omega (arith, first.later, second.failed f);
-}

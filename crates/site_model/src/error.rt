@@ -1,4 +1,4 @@
-// What a call of the outside can fail with.
+//! What a call of the outside can fail with.
 ghost use Rattle.std.specs.Prelude.{◌≡◌};
 ghost use Rattle.site_model.specs.declared.error.SiteError.TheVariants.{Failed as SiteFailed, Memory as SiteMemory};
 ghost use Rattle.site_model.specs.declared.error.OpenFault.TheVariants.{Fault as OpenFaulted, Memory as OpenMemory};

@@ -12,8 +12,8 @@ use Rattle.world_model.specs.declared.types.Mode.TheVariants as mode
 use Rattle.wire_num.specs.Laws.Number.{AreBytes}
 use Rattle.volume_forms.specs.Forms.{has_super}
 use Rattle.file_names.specs.declared.Kind.TheVariants.{Dat, Idx, Shard, Cpx}
-use Rattle.file_names.specs.Names.{max_shards}
-use Rattle.image_meaning.specs.Files.{VolumeFiles, contents, place_of, files_of, stands, bytes_at, shard_home, standing, has_index, index_bytes, dat_bytes}
+use Rattle.file_names.specs.Names.{max_shards, place_of}
+use Rattle.image_meaning.specs.Files.{VolumeFiles, contents, files_of, stands, bytes_at, shard_home, standing, has_index, index_bytes, dat_bytes}
 use Rattle.file_names.specs.declared.Kind.{Kind}
 use Rattle.image_meaning.specs.Plain.{index_home}
 use Rattle.image_meaning.specs.Coded.{ratio_of}
@@ -53,13 +53,6 @@ unsized None e = refl
 unsized (Some bytes) e = absurd cc
 
 -- ---- the homes of the first servers
-
-pub homes_none : (files : VolumeFiles) → AreHomes files 0 []
-homes_none files = record {
-  each = λ home has. absurd (omega (arith, has.1));
-  all = λ server low. absurd (omega arith);
-  first = λ server low. absurd (omega arith);
-}
 
 first_push : (files : VolumeFiles) (n : ℕ) (homes : List Home) (home : Home) → home.server ≡ n → HasNoneBefore files n (slice_get homes 0) → HasNoneBefore files (n + 1) (slice_get (homes ++ home ∷ []) 0)
 first_push files n [] home is none = λ server low. none server (omega (arith, is))

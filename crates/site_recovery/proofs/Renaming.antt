@@ -8,7 +8,8 @@ use Rattle.site_model.specs.Leaves.{Leaves, starts, weaker, by_rename, place_cas
 use Rattle.site_model.specs.Touches.{firm_left, touches_rename, touches_more}
 use Rattle.file_names.specs.declared.Kind.{Kind}
 use Rattle.file_names.specs.declared.Kind.TheVariants.{Dat, Idx, Cpd, Cpx}
-use Rattle.image_meaning.specs.Files.{VolumeFiles, contents, place_of, files_of, stands, lowest, index_bytes, dat_bytes}
+use Rattle.image_meaning.specs.Files.{VolumeFiles, contents, files_of, stands, lowest, index_bytes, dat_bytes}
+use Rattle.file_names.specs.Names.{place_of, IsPlainKind}
 use Rattle.image_meaning.specs.Plain.{index_home}
 use Rattle.image_meaning.specs.Meaning.{max_volumes}
 use Rattle.image_meaning.specs.Laws.PlainLoss.{home_has}
@@ -17,7 +18,7 @@ use Rattle.dat_volume.specs.Opening.{KeepsLengths}
 use Rattle.site_recovery.specs.Steps.{KeepsMeaning}
 use Rattle.site_recovery.specs.Laws.Step.{keeps_none, keeps_plain, reduced_thinned, kinds_apart}
 use Rattle.site_recovery.specs.Homes.{IsTestedPlain}
-use Rattle.site_recovery.specs.Changes.{IsPlainKind, IsOf, Settles, KeepsViews, HasNamedDat}
+use Rattle.site_recovery.specs.Changes.{IsOf, Settles, KeepsViews, HasNamedDat}
 use Rattle.site_recovery.specs.Renaming.{RenamesKind, IsRenamedKind}
 use Rattle.site_recovery.proofs.Places.{plain_kind}
 use Rattle.site_recovery.proofs.Taking.{settles_on}

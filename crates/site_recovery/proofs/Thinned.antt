@@ -4,9 +4,9 @@ use Rattle.std.specs.Prelude.{slice_index_or}
 use Rattle.std.proofs.lemmas.Bool.{cases_eq, cases_lt}
 use Rattle.site_model.specs.Disk.{Place, Files, Disk, IsPossible}
 use Rattle.file_names.specs.declared.Kind.{Kind}
-use Rattle.file_names.specs.Names.{name_bytes}
+use Rattle.file_names.specs.Names.{name_bytes, place_of}
 use Rattle.file_names.specs.declared.Kind.TheVariants.{Dat, Cpd, Shard}
-use Rattle.image_meaning.specs.Files.{VolumeFiles, place_of, shard_home}
+use Rattle.image_meaning.specs.Files.{VolumeFiles, shard_home}
 use Rattle.site_recovery.specs.Changes.{IsKindAt, LacksSome, TakesAway}
 use Rattle.site_recovery.specs.CodedGone.{IsSpare, AreGoneBelow, IsUnkept, IsGoneBeside, ClearsUnless}
 use Rattle.site_recovery.proofs.Taking.{takes_on, takes_more, takes_clear}

@@ -1,4 +1,4 @@
--- Which copies of a coded volume's files may go.
+-- Which copies of a coded volume's files may go. For the recovery of coded volumes, to come.
 use Rattle.std.proofs.Common.{◌≡◌, ◌≢◌, ◌⊎◌, inl, inr, ⊎_elim, ℕ, ◌<◌, Bool, false, true, List, Option, Some, None, sym, subst}
 use Rattle.std.specs.Prelude.{slice_index_or}
 use Rattle.site_model.specs.Disk.{Place, Files, Image, Disk}
@@ -6,8 +6,8 @@ use Rattle.site_model.specs.Leaves.{weaker}
 use Rattle.whole_file.specs.Whole.{Clears}
 use Rattle.file_names.specs.declared.Kind.{Kind}
 use Rattle.file_names.specs.declared.Kind.TheVariants.{Dat, Idx, Cpd, Cpx, Shard, Ecx, Ecj, Vif}
-use Rattle.file_names.specs.Names.{max_shards}
-use Rattle.image_meaning.specs.Files.{VolumeFiles, contents, place_of, files_of, shard_home}
+use Rattle.file_names.specs.Names.{max_shards, place_of}
+use Rattle.image_meaning.specs.Files.{VolumeFiles, contents, files_of, shard_home}
 use Rattle.image_meaning.specs.Meaning.{max_volumes}
 use Rattle.image_meaning.specs.Sound.{IsHolder, IsCoded}
 use Rattle.image_meaning.specs.Places.{finals_apart}

@@ -4,7 +4,8 @@ use Rattle.file_names.specs.declared.Kind.{Kind}
 use Rattle.file_names.specs.declared.Kind.TheVariants.{Dat, Cpd, Shard, Ecj}
 use Rattle.file_names.specs.Names.{IsKind, max_shards}
 use Rattle.wire_num.specs.Pairs.{journal_bytes}
-use Rattle.image_meaning.specs.Files.{VolumeFiles, max_servers, bytes_at, shard_home}
+use Rattle.image_meaning.specs.Files.{VolumeFiles, bytes_at, shard_home}
+use Rattle.site_model.specs.Counts.{max_servers}
 use Rattle.image_meaning.specs.Coded.{deleted_at}
 use Rattle.image_meaning.specs.Sound.{IsHolder, Stands}
 use Rattle.image_meaning.specs.Ends.{IsStage}

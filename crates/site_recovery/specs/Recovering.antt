@@ -12,8 +12,8 @@ use Rattle.world_model.specs.declared.types.Mode.{Mode}
 use Rattle.world_model.specs.declared.types.Mode.TheVariants as mode
 use Rattle.file_names.specs.declared.Kind.{Kind}
 use Rattle.file_names.specs.declared.Kind.TheVariants.{Dat, Idx, Shard, Ecx, Ecj, Vif, Cpd, Cpx}
-use Rattle.file_names.specs.Names.{IsKind, max_shards}
-use Rattle.image_meaning.specs.Files.{VolumeFiles, contents, place_of, files_of, temps_of, bytes_at, index_at, dat_at, index_bytes, dat_bytes}
+use Rattle.file_names.specs.Names.{IsKind, max_shards, place_of, IsCodedKind}
+use Rattle.image_meaning.specs.Files.{VolumeFiles, contents, files_of, temps_of, bytes_at, index_at, dat_at, index_bytes, dat_bytes}
 use Rattle.image_meaning.specs.Plain.{index_home}
 use Rattle.image_meaning.specs.Meaning.{mode_of, volume_in, max_volumes}
 use Rattle.image_meaning.specs.Sound.{IsSound, IsPlain, KeepsRule, KeepsRecords, Stands}
@@ -27,16 +27,6 @@ abbrev pub IsNamed : Place → Type 0
 IsNamed k = (v : ℕ) × (server : ℕ) × (kind : Kind) × (temp : Bool) × (v < max_volumes) × IsKind kind × (k ≡ place_of v server kind temp)
 
 -- ---- coded volumes, which are not built yet
-
-abbrev pub IsCodedKind : Kind → Type 0
-IsCodedKind Dat = ⊥
-IsCodedKind Idx = ⊥
-IsCodedKind Cpd = ⊥
-IsCodedKind Cpx = ⊥
-IsCodedKind (Shard i) = i < max_shards
-IsCodedKind Ecx = Unit {0}
-IsCodedKind Ecj = Unit {0}
-IsCodedKind Vif = Unit {0}
 
 -- a file of the coded form stands for the volume, or a temporary one
 abbrev pub HasCodedFile : Files → ℕ → Type 0

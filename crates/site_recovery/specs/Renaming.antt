@@ -2,7 +2,8 @@
 use Rattle.std.specs.Prelude.{◌≡◌, ℕ, Bool, false}
 use Rattle.site_model.specs.Disk.{Files, Disk, Renames, IsRenamed}
 use Rattle.file_names.specs.declared.Kind.{Kind}
-use Rattle.image_meaning.specs.Files.{contents, files_of, stands, place_of}
+use Rattle.image_meaning.specs.Files.{contents, files_of, stands}
+use Rattle.file_names.specs.Names.{place_of}
 
 -- the server has this file of the volume, or not
 abbrev pub StandsAs : Bool → ℕ → ℕ → Kind → Files → Type 0

@@ -1,4 +1,4 @@
-// Spare copies of a coded volume's files.
+//! Spare copies of a coded volume's files.
 ghost use Rattle.std.specs.Prelude.{◌≤◌, ◌<◌, length, false, None, ◌≡◌, IsTrue, IfErr, IsErrOf, OnOk};
 ghost use Rattle.image_meaning.specs.Files.{contents, files_of};
 ghost use Rattle.site_model.specs.Counts.{Calls};
@@ -7,9 +7,9 @@ ghost use Rattle.site_recovery.specs.Changes.{TakesAway};
 ghost use Rattle.file_names.specs.Names.{IsKind};
 ghost use Rattle.site_recovery.specs.CodedGone.{IsUnkept, IsGoneBeside, ClearsUnless, IsSpare, HasShardHomes, AreCopiesGone};
 
-use crate::asking::{clear_at, name_of};
+use crate::asking::clear_at;
 use crate::clearing::clear_kind;
-use file_names::{Kind, MAX_SHARDS};
+use file_names::{Kind, MAX_SHARDS, final_name};
 use site_model::{OpenFault, Site};
 use std::alloc::Global;
 
@@ -61,7 +61,7 @@ pub(crate) fn clear_beside<T: Site>(
     ensures why { IfErr result IsSiteFault }
     ensures runs { Calls T.counts T.servers site.old site.new (λ s. IsErrOf result (OpenFault.Fault s)) }
 {
-    let name = name_of(alloc, volume, kind, false)?;
+    let name = final_name(alloc, volume, kind)?;
     for server in 0..site.servers() {
         clear_unless(site, server, &name, keeps[server as usize])?;
     }

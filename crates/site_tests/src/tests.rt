@@ -1,3 +1,4 @@
+//! Tests over the site in memory, by public calls alone.
 mod helpers;
 mod recovered_sites;
 mod recoveries;

@@ -4,3 +4,4 @@ pub mod End
 pub mod Put
 pub mod Store
 pub mod World
+pub mod Written

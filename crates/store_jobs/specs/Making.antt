@@ -1,4 +1,4 @@
--- The slot that a plan's end gives its volume.
+-- The slot that a plan's end gives its volume. The last law is for `plan_code`, to come.
 use Rattle.std.proofs.Common.{◌≡◌, ℕ, false, List, [], Some, refl, sym, ◌∙◌, ap, subst}
 use Rattle.world_model.specs.declared.types.Command.{Command}
 use Rattle.world_model.specs.declared.types.Command.TheVariants.{Encode, Rebuild, Balance, Decode}

@@ -37,7 +37,3 @@ numbers_some (Some f) n h = (
 
     after : Fields → Ratio → Option Info
     after f ratio = made f.dat_size f.large f.small f.version ratio
-
-pub numbers_none : (o : Option Fields) → IsNumbers o None → o ≡ None
-numbers_none None h = refl
-numbers_none (Some f) h = absurd h

@@ -12,16 +12,11 @@ ghost use Rattle.vif_info.specs.Reads.{IsReading, IsNumbers, Says, info_with, va
 use serde_json::{Error, Value, json};
 use std::alloc::{AllocError, Global};
 use stripe_layout::{Geometry, Info};
+use world_model::limits::{MAX_BLOCK, MAX_DAT};
 use world_model::types::Ratio;
 
-/// The version of volumes that is read and written.
+// The version of volumes that is read and written.
 const VERSION: u64 = 3;
-
-/// The greatest data file.
-const MOST_DATA: u64 = 1 << 35;
-
-/// The greatest block.
-const MOST_BLOCK: u64 = 1 << 30;
 
 /// Why a text was not read, the first that holds.
 #[derive(Clone, Copy, Debug, PartialEq, Eq)]
@@ -131,9 +126,9 @@ fn info_by(numbers: Numbers, ratio: Ratio) -> Option<Info>
     } = numbers;
     if version != VERSION
         || dat_size < 8
-        || dat_size > MOST_DATA
+        || dat_size > MAX_DAT
         || large < 1
-        || large > MOST_BLOCK
+        || large > u64::from(MAX_BLOCK)
         || small < 1
         || small > large
         || large % small != 0

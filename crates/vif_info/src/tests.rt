@@ -1,4 +1,4 @@
-// Texts that are read and written.
+//! Texts that are read and written.
 use crate::{InfoFault, print_info, read_info};
 use std::alloc::Global;
 use std::process::Abort;
@@ -6,10 +6,10 @@ use std::test::Fail;
 use stripe_layout::{Geometry, Info};
 use world_model::types::Ratio;
 
-/// The text of a data file of 56 bytes in blocks of 16 and of 8, in 10 and 4 shards.
+// The text of a data file of 56 bytes in blocks of 16 and of 8, in 10 and 4 shards.
 const TEXT: &str = r#"{"datSize":56,"large":16,"small":8,"version":3}"#;
 
-/// The same in 3 and 2 shards.
+// The same in 3 and 2 shards.
 const THREE_TWO: &str = r#"{"datSize":56,"large":16,"ratio":"3+2","small":8,"version":3}"#;
 
 fn info(ratio: Ratio) -> Info {
@@ -119,7 +119,7 @@ fn each_fault_is_told_in_its_turn(rt: HostRuntime) {
     }
 }
 
-/// Reads a text of which a member has so many arrays within each other.
+// Reads a text of which a member has so many arrays within each other.
 fn read_nested(alloc: Global, arrays: usize) -> Result<Result<Info, InfoFault>, Fail> {
     let mut text = Vec::from_slice(alloc, br#"{"a":"#)?;
     for _ in 0..arrays {

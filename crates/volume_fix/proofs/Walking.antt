@@ -13,9 +13,6 @@ pub record Walking (end first : ℕ) (chunk : List ℕ) (before : List Entry) (a
   pub reserved : count + (length rest + header_length) / 32 ≤ capacity
 
 module _ {end first : ℕ} {chunk : List ℕ} {before : List Entry} where
-  pub walking-begins : (count capacity : ℕ) → count + (length chunk / 32 + 1) ≤ capacity → Walking end first chunk before first chunk before count capacity
-  walking-begins count capacity h = record { done = []; out = sym (append-nil before); walked = refl; reserved = omega arith }
-
   pub walking-on : (at : ℕ) (rest : List ℕ) (now : List Entry) (count capacity : ℕ) (found : Entry × ℕ) (room : ℕ) → Walking end first chunk before at rest now count capacity
       → header_length ≤ length rest → entry_or_past end at rest ≡ Ok found → capacity ≤ room → Walking end first chunk before (at + found.1) (drop found.1 rest) (now ++ found.0 ∷ []) (count + 1) room
   walking-on at rest now count capacity found room w h e c =

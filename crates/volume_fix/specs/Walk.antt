@@ -12,8 +12,8 @@ header_length = 16
 abbrev pub id_of : List ℕ → ℕ
 id_of header = number_of 8 (drop 4 header)
 
-abbrev pub size_of : List ℕ → ℕ
-size_of header = number_of 4 (drop 12 header)
+abbrev pub entry_size : List ℕ → ℕ
+entry_size header = number_of 4 (drop 12 header)
 
 -- the greatest size that an entry has
 abbrev pub max_size : ℕ
@@ -41,7 +41,7 @@ entry_if_within end at id size =
 
 -- the same of the record whose header the bytes begin with
 abbrev pub entry_or_past : ℕ → ℕ → List ℕ → Result (Entry × ℕ) Past
-entry_or_past end at bytes = entry_if_within end at (id_of bytes) (size_of bytes)
+entry_or_past end at bytes = entry_if_within end at (id_of bytes) (entry_size bytes)
 
 -- an entry, and then those of the walk from the end of its record
 abbrev pub walk_on : (ℕ → List ℕ → Walk) → ℕ → List ℕ → Result (Entry × ℕ) Past → Walk

@@ -2,27 +2,15 @@
 #![tactic(auto)]
 
 ghost use Rattle.std.specs.Prelude.{◌≡◌, ◌+◌, ◌/◌, ◌%◌, ◌^◌, ◌<◌, ◌≤◌, ◌==◌, if◌then◌else◌, pos, negsuc, [], ◌∷◌, ◌++◌, length, drop, vec_len, vec_capacity, IfOk};
+ghost use Rattle.world_model.specs.Sizes.{max_dat};
 ghost use Rattle.volume_fix.specs.Walk.{LeavesNoHeader, entry_or_past, walk};
 
-use volume_forms::Entry;
+use needle_record::{HEADER_LENGTH, ID_AT, SIZE_AT};
+use volume_forms::{DELETED_SIZE, Entry, OFFSET_UNIT};
 use wire_num::{get_u32, get_u64, record_length};
 
-/// The bytes of a record's header: cookie (4), id (8), size (4), all big-endian.
-const HEADER_LENGTH: usize = 16;
-
-/// Where the id and the size stand in a header.
-const ID_AT: usize = 4;
-
-const SIZE_AT: usize = 12;
-
-/// The greatest size that an index entry has.
+// The greatest size that an index entry has.
 const MAX_SIZE: u32 = 0x7fff_ffff;
-
-/// The size in the entry of a deletion.
-const DELETED: i32 = -1;
-
-/// An entry's offset counts units of so many bytes.
-const OFFSET_UNIT: u64 = 8;
 
 /// A record that ends past the end, or whose size is over 2^31 - 1: its place and its length.
 #[derive(Clone, Copy, Debug, PartialEq, Eq)]
@@ -39,7 +27,7 @@ pub struct Past {
 pub fn headers(chunk: &[u8], at: u64, end: u64, out: &mut Vec<Entry>) -> Result<u64, Past>
     requires header { 16 ≤ length chunk.now }
     requires aligned { at % 8 ≡ 0 }
-    requires end { end ≤ 2 ^ 35 }
+    requires end { end ≤ max_dat }
     requires reserved { vec_len out.old + (length chunk.now / 32 + 1) ≤ vec_capacity out.old }
     ensures entries { out.new.items ≡ out.old.items ++ (walk end at chunk.now).entries }
     ensures next { result ≡ (walk end at chunk.now).next }
@@ -56,10 +44,10 @@ pub fn headers(chunk: &[u8], at: u64, end: u64, out: &mut Vec<Entry>) -> Result<
     Ok(at)
 }
 
-/// The entry and the length of the record whose header the bytes begin with.
+// The entry and the length of the record whose header the bytes begin with.
 fn read_entry(bytes: &[u8], at: u64, end: u64) -> Result<(Entry, u64), Past>
     requires header { 16 ≤ length bytes.now }
-    requires end { end ≤ 2 ^ 35 }
+    requires end { end ≤ max_dat }
     ensures { result ≡ entry_or_past end at bytes.now }
 {
     let size = get_u32(bytes, SIZE_AT);
@@ -75,15 +63,15 @@ fn read_entry(bytes: &[u8], at: u64, end: u64) -> Result<(Entry, u64), Past>
     Ok((entry, length))
 }
 
-/// The size in the entry of a record whose fields have this size.
+// The size in the entry of a record whose fields have this size.
 fn entry_size(size: u32) -> i32
     requires { size < 2 ^ 31 }
     ensures { result ≡ (if size == 0 then negsuc 0 else pos size) }
 {
-    if size == 0 { DELETED } else { size as i32 }
+    if size == 0 { DELETED_SIZE } else { size as i32 }
 }
 
-/// Appends where there is room.
+// Appends where there is room.
 fn push_reserved(out: &mut Vec<Entry>, entry: Entry)
     requires { vec_len out.old < vec_capacity out.old }
     ensures items { out.new.items ≡ out.old.items ++ entry ∷ [] }
@@ -95,7 +83,7 @@ fn push_reserved(out: &mut Vec<Entry>, entry: Entry)
     };
 }
 
-/// The bytes behind the first `length`, none if there are fewer.
+// The bytes behind the first `length`, none if there are fewer.
 fn behind(bytes: &[u8], length: u64) -> &[u8]
     ensures { result.now ≡ drop length bytes.now }
 {

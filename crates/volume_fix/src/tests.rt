@@ -1,8 +1,9 @@
+//! Tests of the public calls, by worked rows.
 use super::*;
 use std::test::Fail;
 use wire_num::{put_u32, put_u64};
 
-/// The end of a volume's records in these tests, past all of them.
+// The end of a volume's records in these tests, past all of them.
 const END: u64 = 1000;
 
 #[test]

@@ -2,13 +2,13 @@
 use Rattle.std.specs.Prelude.{ℕ, List, ◌++◌, codes, decimal}
 use Rattle.weed_shell.specs.declared.status.Status.{Status}
 use Rattle.weed_shell.specs.declared.status.Status.TheVariants as status
-use Rattle.weed_shell.specs.Statuses.{number_of}
+use Rattle.weed_shell.specs.Statuses.{status_number}
 use Rattle.weed.specs.declared.ending.Ending.{Ending}
 use Rattle.weed.specs.declared.ending.Ending.TheVariants as ending
 
 -- that of the status, and one more where there was no site
 abbrev pub ending_number : Ending → ℕ
-ending_number (ending.Ran status) = number_of status
+ending_number (ending.Ran status) = status_number status
 ending_number ending.NoSite = 8
 
 abbrev pub status_text : Status → List ℕ

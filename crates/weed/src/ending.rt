@@ -1,4 +1,4 @@
-// How the program ends.
+//! How the program ends.
 ghost use Rattle.std.specs.Prelude.{◌≡◌};
 ghost use Rattle.weed.specs.Endings.{ending_number};
 
@@ -6,7 +6,7 @@ use std::fmt;
 use std::fmt::{Display, Formatter};
 use weed_shell::Status;
 
-/// The number of an ending without a site, which is none of a status.
+// The number of an ending without a site, which is none of a status.
 const NO_SITE: u8 = 8;
 
 /// How the program ends.

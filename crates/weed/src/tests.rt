@@ -1,4 +1,4 @@
-// What the program says at its end.
+//! What the program says at its end.
 use crate::ending::Ending;
 use std::test::Fail;
 use weed_shell::Status;

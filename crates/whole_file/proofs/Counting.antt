@@ -3,13 +3,13 @@ use Rattle.std.proofs.Common.{◌≡◌, ℕ, ◌+◌, ◌-◌, ◌%◌, ◌<◌
 use Rattle.std.proofs.lemmas.List.{length-take}
 use Rattle.site_model.specs.Counts.{Counts, CountsRead, CountsWrite, TakesCalls, widest_piece}
 use Rattle.site_model.specs.Laws.Count.{takes_on, takes_within, takes_read, takes_write}
-use Rattle.whole_file.specs.Pieces.{read_pieces, pieces_of}
+use Rattle.whole_file.specs.Pieces.{read_pieces, append_pieces}
 
 -- so many of n bytes are appended: whole pieces, where there are more to append
 pub record HasSent (at n : ℕ) (old new : Counts) : Type 0 where
   pub whole : at < n → at % 65536 ≡ 0
   pub some : at < n → 0 < at
-  pub calls : TakesCalls (pieces_of at) widest_piece old new
+  pub calls : TakesCalls (append_pieces at) widest_piece old new
 
 -- the same of a read, which needs no piece for no byte
 pub record HasRead (at n : ℕ) (old new : Counts) : Type 0 where
@@ -36,7 +36,7 @@ module _ {server : ℕ} {F : Type 0} {old mid new : Counts} where
   next_sent width at end n more is ends so_far did = record {
     whole = λ yet. omega (arith, more, is, ends, yet, so_far.whole more);
     some = λ yet. omega (arith, ends, so_far.some more);
-    calls = one_more (pieces_of at) (pieces_of end) width (omega (arith, more, is, ends, so_far.whole more, so_far.some more)) (omega (arith, is)) so_far.calls (takes_write did);
+    calls = one_more (append_pieces at) (append_pieces end) width (omega (arith, more, is, ends, so_far.whole more, so_far.some more)) (omega (arith, is)) so_far.calls (takes_write did);
   }
 
   pub next_read : (width at end n : ℕ) → at < n → width ≡ min (n - at) 65536 → end ≡ at + width → HasRead at n old mid → CountsRead server width mid new F → HasRead end n old new

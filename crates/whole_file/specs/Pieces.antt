@@ -6,5 +6,5 @@ abbrev pub read_pieces : ℕ → ℕ
 read_pieces n = (n + 65535) / 65536
 
 -- those in which they are appended: one for no byte, since an absent file is made
-abbrev pub pieces_of : ℕ → ℕ
-pieces_of n = max 1 (read_pieces n)
+abbrev pub append_pieces : ℕ → ℕ
+append_pieces n = max 1 (read_pieces n)

@@ -1,3 +1,4 @@
+//! Why a whole file was not read or written.
 ghost use Rattle.std.specs.Prelude.{◌≡◌};
 ghost use Rattle.whole_file.specs.declared.fault.FileFault.TheVariants.{Memory as FileMemory};
 

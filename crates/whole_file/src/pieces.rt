@@ -1,11 +1,11 @@
+//! Appends of many bytes, in pieces.
 ghost use Rattle.std.specs.Prelude.{◌≡◌, ◌<◌, ◌+◌, ◌++◌, IsTrue, IsErr, OnOk, length};
 ghost use Rattle.site_model.specs.Disk.{grown, firm_file, bytes_of};
 ghost use Rattle.site_model.specs.Counts.{CallsAt, TakesCalls, widest_piece};
-ghost use Rattle.whole_file.specs.Pieces.{pieces_of};
+ghost use Rattle.whole_file.specs.Pieces.{append_pieces};
 ghost use Rattle.whole_file.specs.Whole.{AppendsAll, AppendsFirm};
 
-use crate::PIECE;
-use site_model::{Failed, Site};
+use site_model::{Failed, PIECE, Site};
 
 /// Appends all of the bytes, in pieces. An absent file is made.
 pub fn append_all<T: Site>(
@@ -20,7 +20,7 @@ pub fn append_all<T: Site>(
     ensures done { OnOk result (IsTrue T.tells
         → (T.disk site.new).files (server, name.now)
         ≡ Some (grown ((T.disk site.old).files (server, name.now)) bytes.now)) }
-    ensures calls { TakesCalls (pieces_of (length bytes.now)) widest_piece (T.counts site.old)
+    ensures calls { TakesCalls (append_pieces (length bytes.now)) widest_piece (T.counts site.old)
         (T.counts site.new) }
     ensures runs { CallsAt T.counts T.servers server site.old site.new (IsErr result) }
 {
@@ -47,7 +47,7 @@ pub fn append_firm<T: Site>(
     ensures done { OnOk result (IsTrue T.tells
         → (T.disk site.new).files (server, name.now)
         ≡ Some (firm_file (bytes_of ((T.disk site.old).files (server, name.now)) ++ bytes.now))) }
-    ensures calls { TakesCalls (pieces_of (length bytes.now) + 1) widest_piece (T.counts site.old)
+    ensures calls { TakesCalls (append_pieces (length bytes.now) + 1) widest_piece (T.counts site.old)
         (T.counts site.new) }
     ensures runs { CallsAt T.counts T.servers server site.old site.new (IsErr result) }
 {

@@ -1,13 +1,14 @@
+//! Reads of a range and of a whole file, in pieces.
 ghost use Rattle.std.specs.Prelude.{◌≡◌, ◌<◌, ◌≤◌, ◌+◌, ◌^◌, ◌⊎◌, IsTrue, IfOk, IfErr, IsErrOf, length, take, drop};
 ghost use Rattle.site_model.specs.Disk.{standing, bytes_of, length_of};
 ghost use Rattle.site_model.specs.Counts.{CallsAt, TakesCalls, widest_piece};
-ghost use Rattle.file_names.specs.Names.{IsKind};
-ghost use Rattle.whole_file.specs.Held.{held, final_place};
+ghost use Rattle.file_names.specs.Names.{IsKind, final_place};
+ghost use Rattle.whole_file.specs.Held.{held};
 ghost use Rattle.whole_file.specs.Pieces.{read_pieces};
 
-use crate::{FileFault, PIECE};
-use file_names::{FileName, Kind, spell};
-use site_model::{DeviceFault, Site};
+use crate::FileFault;
+use file_names::{Kind, final_name};
+use site_model::{DeviceFault, PIECE, Site};
 use std::alloc::{AllocError, Global};
 
 /// The bytes of a file from `at` on, this many. The range lies in the file. It is read in pieces of at most
@@ -66,14 +67,7 @@ pub fn read_whole<T: Site>(
     ensures blame { IfErr result (λ fault. (fault ≡ FileFault.Memory)
         ⊎ (fault ≡ FileFault.Fault (record { server = server }))) }
 {
-    let name = spell(
-        alloc,
-        &FileName {
-            volume,
-            kind,
-            temp: false,
-        },
-    )?;
+    let name = final_name(alloc, volume, kind)?;
     let size = match site.size(server, &name) {
         Ok(Some(size)) => size as usize,
         Ok(None) => return Ok(None),

@@ -8,7 +8,7 @@ use Rattle.std.proofs.lemmas.List.{length-drop, length-take-le, take-map, take-t
 use Rattle.std.proofs.lemmas.List.Elements.{All-take}
 use Rattle.std.proofs.lemmas.Bool.{eqb-true, eq-eqb, ne_eqb, lt-ltb, le-ltb, ltb-true, ltb-false, leb-true, cases_lt, or_cases, and_right, or_left, or_right, false_from_ne_true, false≢true}
 use Rattle.world_model.specs.declared.types.Content.{Content}
-use Rattle.world_model.specs.Sizes.{size_of}
+use Rattle.world_model.specs.Sizes.{size_of_content, max_dat}
 use Rattle.volume_forms.specs.declared.Entry.{Entry}
 use Rattle.volume_forms.specs.Forms.{entries, has_super}
 use Rattle.volume_forms.specs.Kept.{entry_eq, entry_end, kept_count, kept_length}
@@ -18,7 +18,7 @@ use Rattle.needle_record.specs.declared.Record.{Record}
 use Rattle.needle_record.specs.declared.NeedleFault.{NeedleFault}
 use Rattle.needle_record.specs.Laws.Spelling.{found-length, found-within, needle_at-take, length_of_record-least}
 use Rattle.needle_record.specs.Reading.{needle_at}
-use Rattle.needle_record.specs.Records.{Placed, Index, max_dat, records, records_from, end_of, entry_of, index_of, index_from, index_after_content, StandsIn}
+use Rattle.needle_record.specs.Records.{Placed, Index, records, records_from, end_of, entry_of, index_of, index_from, index_after_content, StandsIn}
 use Rattle.needle_record.specs.Laws.Records.{entry_of-end, kept_length-entries, records-stand}
 use Rattle.image_meaning.specs.Plain.{kept, kept_records, FollowsRecords}
 use Rattle.image_meaning.specs.Laws.Plain.{kept_count-front, entries-take, has_super-long, has_super-take}
@@ -30,15 +30,6 @@ use Rattle.dat_volume.specs.Chains.{both_hold, chained-le, chained-first, chaine
 -- all, where the last follows and has its record
 pub accepted-all : (dat : List ℕ) (es : List Entry) → chained 8 es ≡ length es → has_record_of dat es (length es - 1) ≡ true → accepted dat es ≡ length es
 accepted-all dat es whole has = λ i. cond (eq-eqb (chained 8 es) (length es) whole i && has i) (length es) (length es - 1)
-
-pub accepted-gap : (dat : List ℕ) (es : List Entry) → chained 8 es < length es → accepted dat es ≡ length es - 1
-accepted-gap dat es gap = ap (λ b. cond (b && has_record_of dat es (length es - 1)) (length es) (length es - 1)) (ne_eqb (chained 8 es) (length es) other)
-  where
-    other : chained 8 es ≡ length es → ⊥
-    other e = absurd (omega (arith, gap, e))
-
-pub accepted-alien : (dat : List ℕ) (es : List Entry) → has_record_of dat es (length es - 1) ≡ false → accepted dat es ≡ length es - 1
-accepted-alien dat es alien = ap (λ b. cond b (length es) (length es - 1)) (and_right (chained 8 es == length es) (has_record_of dat es (length es - 1)) alien)
 
 -- either way
 pub accepted-cases : (dat : List ℕ) (es : List Entry)
@@ -169,10 +160,6 @@ module _ (dat idx : List ℕ) where
   pub counted-earlier : accepted dat (entries idx) < length (entries idx) → 3 ≤ length (entries idx) → has_record_of dat (entries idx) (length (entries idx) - 3) ≡ false → counted dat idx ≡ Err 1
   counted-earlier short long alien = counted_without (λ have. false≢true (sym alien ∙ last_two-earlier dat (entries idx) have short long))
 
-  -- no other rule fails
-  pub counted-rule : (rule : ℕ) → counted dat idx ≡ Err rule → rule ≡ 1
-  counted-rule rule e = only_first has_gap have_both (accepted dat (entries idx)) rule (sym counted_is ∙ e)
-
   pub counted-passed : PassesEntries dat (entries idx) → HasEarlier dat (entries idx) → counted dat idx ≡ Ok (accepted dat (entries idx))
   counted-passed passes earlier =
       counted_is ∙ λ i. answer (le-ltb (chained 8 (entries idx) + 1) (length (entries idx)) passes.chain i) (passes-last_two dat (entries idx) passes earlier i) (accepted dat (entries idx))
@@ -268,20 +255,6 @@ module _ (dat idx : List ℕ) (follows : FollowsRecords dat idx) where
 
   pub follows-tested : has_super dat ≡ true → tested dat idx ≡ Ok (kept dat idx)
   follows-tested super = tested-ok dat idx (kept dat idx) follows-counted super
-
-  -- and rule 1 is never the one that fails
-  pub follows-not_first : tested dat idx ≡ Err 1 → ⊥
-  follows-not_first e = by_super (has_super dat) refl
-    where
-      other : ◌≡◌ {A = Result ℕ ℕ} (Err 3) (Err 1) → ⊥
-      other p = let rules : ◌≡◌ {A = ℕ} 3 1 = cc in absurd (omega arith)
-
-      never : ◌≡◌ {A = Result ℕ ℕ} (Ok (kept dat idx)) (Err 1) → ⊥
-      never p = absurd cc
-
-      by_super : (b : Bool) → has_super dat ≡ b → ⊥
-      by_super true super = never (sym (follows-tested super) ∙ e)
-      by_super false bare = other (sym (tested-bare dat idx (kept dat idx) follows-counted bare) ∙ e)
 
   follows-front : take (kept dat idx) (entries idx) ≡ map entry_of (kept_records dat idx)
   unfolding kept kept_records
@@ -506,24 +479,17 @@ module _ (dat idx : List ℕ) (k : ℕ) (passes : tested dat idx ≡ Ok k) where
 
   -- ---- cut
 
-  pub cut-entries : entries (take (16 * k) idx) ≡ take k (entries idx)
-  cut-entries = entries-take k idx tested-idx
-
-  -- cut to what is kept, they are as long as what is kept
-  pub cut-end : end_by (take (16 * k) idx) k ≡ end_by idx k
-  cut-end = ap (λ es. kept_length (take k es)) cut-entries ∙ ap kept_length (take-take k k (entries idx) (omega arith))
-
   -- and pass again
   pub cut-tested : tested (take (end_by idx k) dat) (take (16 * k) idx) ≡ Ok k
   cut-tested = tested-ok (take (end_by idx k) dat) (take (16 * k) idx) k (cut-counted dat idx k counts_too) (has_super-take dat (end_by idx k) tested-super ending.0)
 
 -- ---- indexes
 
-index_step : (index : Index) (p : Placed) (o : Option Content) → index_after_entry index (entry_of p) (cond (option_map_or size_of o 0 == 0) (negsuc 0) (pos (option_map_or size_of o 0))) ≡ index_after_content index p o
+index_step : (index : Index) (p : Placed) (o : Option Content) → index_after_entry index (entry_of p) (cond (option_map_or size_of_content o 0 == 0) (negsuc 0) (pos (option_map_or size_of_content o 0))) ≡ index_after_content index p o
 index_step index p None = refl
-index_step index p (Some c) = ap (λ b. index_after_entry index (entry_of p) (cond b (negsuc 0) (pos (size_of c)))) (ne_eqb (size_of c) 0 some)
+index_step index p (Some c) = ap (λ b. index_after_entry index (entry_of p) (cond b (negsuc 0) (pos (size_of_content c)))) (ne_eqb (size_of_content c) 0 some)
   where
-    some : size_of c ≡ 0 → ⊥
+    some : size_of_content c ≡ 0 → ⊥
     some e = absurd (omega arith)
 
 index_by_from-records : (index : Index) (ps : List Placed) → index_by_from index (map entry_of ps) ≡ index_from index ps

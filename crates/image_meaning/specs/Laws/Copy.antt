@@ -1,4 +1,5 @@
 -- What is left of a volume when copies of its files are taken away, and which files are no volume's but one's.
+-- What nothing cites yet is for the recovery of coded volumes, to come.
 use Rattle.std.proofs.Common.{◌≡◌, ◌≢◌, ◌⊎◌, inl, inr, ⊎_elim, ℕ, ◌<◌, ◌≤◌, Bool, true, false, List, [], length, Option, Some, None, is_some, IsTrue, refl, sym, ◌∙◌, ap, subst, arith}
 use Rattle.std.specs.Prelude.{nat_lt, unwrap_or, IsSome, decimal, if◌then◌else◌}
 use mathlib.Core.Bool.{true≢false}
@@ -11,11 +12,11 @@ use Rattle.world_model.specs.World.{Volume}
 use Rattle.file_names.specs.declared.Kind.{Kind}
 use Rattle.file_names.specs.declared.Kind.TheVariants.{Dat, Idx, Cpd, Cpx, Shard, Ecx, Ecj, Vif}
 use Rattle.file_names.specs.declared.FileName.{FileName}
-use Rattle.file_names.specs.Names.{name_bytes}
+use Rattle.file_names.specs.Names.{name_bytes, place_of}
 use Rattle.file_names.specs.Laws.Name.{after_dot, name_in_parts, no_dot, parts_apart}
 use Rattle.volume_forms.specs.Forms.{has_super}
 use Rattle.needle_record.specs.Records.{fold_records}
-use Rattle.image_meaning.specs.Files.{VolumeFiles, place_of, files_of, lose_files, has_index, index_at, dat_at, index_bytes, dat_bytes, SameVolume}
+use Rattle.image_meaning.specs.Files.{VolumeFiles, files_of, lose_files, has_index, index_at, dat_at, index_bytes, dat_bytes, SameVolume}
 use Rattle.image_meaning.specs.Plain.{kept_records, kept_at, index_home, FollowsRecords}
 use Rattle.image_meaning.specs.Meaning.{volume_of, max_volumes}
 use Rattle.image_meaning.specs.Sound.{Stands, IsPlain, HasIndex, HasOneHome, IsSoundVolume}

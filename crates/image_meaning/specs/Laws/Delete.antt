@@ -3,6 +3,7 @@ use Rattle.std.proofs.Common.{◌≡◌, ◌≢◌, ◌⊎◌, inl, inr, ⊎_eli
 use Rattle.std.specs.Prelude.{nat_eq, unwrap_or, option_and_then, Contains}
 use Rattle.std.specs.List.{AllByRecursion, IsDistinct}
 use Rattle.std.proofs.Math.ListN.{length-append}
+use Rattle.world_model.specs.Sizes.{deletion_length, max_dat}
 use Rattle.file_names.specs.declared.Kind.{Kind}
 use Rattle.file_names.specs.declared.Kind.TheVariants.{Idx, Cpx, Shard, Ecx, Ecj, Vif}
 use Rattle.wire_num.specs.Pairs.{pairs}
@@ -30,7 +31,7 @@ with_deleted parts id = record parts { deleted = parts.deleted ++ id ∷ [] }
 pub record CanDelete (parts : Parts) (id : ℕ) : Type 0 where
   pub fresh : AllByRecursion (λ other. nat_eq other id ≡ false) parts.deleted
   pub known : Contains (map (λ e. e.id) (entries parts.index)) id
-  pub room : parts.info.dat_size + 32 * (length parts.deleted + 1) ≤ 2 ^ 35
+  pub room : parts.info.dat_size + deletion_length * (length parts.deleted + 1) ≤ max_dat
 
 -- Each file is as it was, but a holder's journal may have the id behind it, or a part of its pair.
 pub record IsDeleting (parts : Parts) (id : ℕ) (files left : VolumeFiles) : Type 0 where

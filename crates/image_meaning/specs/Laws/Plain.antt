@@ -11,7 +11,7 @@ use Rattle.std.proofs.lemmas.List.Elements.{All-take}
 use Rattle.std.proofs.lemmas.Bool.{le-leb, leb-true, le-ltb, lt-leb}
 use Rattle.wire_num.specs.Numbers.{number_of, bytes_of}
 use Rattle.wire_num.specs.Laws.Number.{number_of-append, length-bytes_of}
-use Rattle.world_model.specs.Sizes.{Fits}
+use Rattle.world_model.specs.Sizes.{FitsRecord, max_dat}
 use Rattle.world_model.specs.declared.types.Mode.{Mode}
 use Rattle.world_model.specs.declared.types.Mode.TheVariants as mode
 use Rattle.file_names.specs.declared.Kind.{Kind}
@@ -25,9 +25,10 @@ use Rattle.volume_forms.specs.Laws.Kept.{kept_count-le_index, kept_count-le_want
 use Rattle.needle_record.specs.declared.Record.{Record}
 use Rattle.needle_record.specs.Spelling.{HasRoom, canonical, length_of_record, record_size}
 use Rattle.needle_record.specs.Laws.Spelling.{length_of_record-least, record_size-fits}
-use Rattle.needle_record.specs.Records.{Placed, records, max_dat, end_of, entry_of, fold_records, index_of, AgreesAt, StandsIn}
+use Rattle.needle_record.specs.Records.{Placed, records, end_of, entry_of, fold_records, index_of, AgreesAt, StandsIn}
 use Rattle.needle_record.specs.Laws.Records.{records_from-nothing, records-write, whole_dat-write, records-cut, whole_dat-cut, records-stand, index_of-agrees, fold_records-used}
-use Rattle.image_meaning.specs.Files.{VolumeFiles, max_servers, stands, bytes_at, has_index, index_at, dat_at, index_bytes, dat_bytes, lowest, shard_home, standing}
+use Rattle.image_meaning.specs.Files.{VolumeFiles, stands, bytes_at, has_index, index_at, dat_at, index_bytes, dat_bytes, lowest, shard_home, standing}
+use Rattle.site_model.specs.Counts.{max_servers}
 use Rattle.image_meaning.specs.Plain.{kept, kept_records, kept_at, index_home, FollowsRecords, IsExact}
 use Rattle.image_meaning.specs.Coded.{ratio_of}
 use Rattle.world_model.specs.Ratios.{data_count, data_count-some}
@@ -93,7 +94,7 @@ length-entry_bytes e =
     ∙ λ i. length-bytes_of 8 e.id i + length-bytes_of 4 e.offset i + length-bytes_of 4 (cast_unsigned w32 e.size) i
 
 -- the entry of one record
-pub entries-one : (p : Placed) → HasRoom p.1 → IfSome p.1.content Fits → p.0 < 2 ^ 35 → entries (entry_bytes (entry_of p)) ≡ entry_of p ∷ []
+pub entries-one : (p : Placed) → HasRoom p.1 → IfSome p.1.content FitsRecord → p.0 < max_dat → entries (entry_bytes (entry_of p)) ≡ entry_of p ∷ []
 unfolding entries entries_within
 entries-one p room fits place =
     let e : Entry = entry_of p in
@@ -102,7 +103,7 @@ entries-one p room fits place =
 
 module _ (dat idx : List ℕ) (ps : List Placed) (exact : IsExact dat idx ps) where
   -- after a put there is one record more
-  pub exact_push : (r : Record) → HasRoom r → IfSome r.content Fits → length dat + length_of_record r ≤ max_dat
+  pub exact_push : (r : Record) → HasRoom r → IfSome r.content FitsRecord → length dat + length_of_record r ≤ max_dat
       → IsExact (dat ++ canonical r) (idx ++ entry_bytes (entry_of (length dat, r))) (ps ++ (length dat, r) ∷ [])
   exact_push r room fits ends = record {
     whole = whole_dat-write dat r exact.whole room fits ends;
@@ -141,9 +142,6 @@ module _ (dat idx : List ℕ) (ps : List Placed) (exact : IsExact dat idx ps) wh
   kept-index idx_more =
       ap (λ d. kept d (idx ++ idx_more)) (sym (append-nil dat)) ∙ kept-more dat idx ps exact [] idx_more
       ∙ ap (λ rs. length ps + kept_count (map entry_of rs) (entries idx_more)) (records_from-nothing (length dat)) ∙ omega (arith, kept_count-le_wanted [] (entries idx_more))
-
-  pub exact_kept : kept dat idx ≡ length ps
-  exact_kept = ap (kept dat) (sym (append-nil idx)) ∙ kept-index []
 
 -- ---- a cut
 
@@ -216,11 +214,6 @@ module _ (dat idx : List ℕ) (super : 8 ≤ length dat) where
   -- the super block stays
   pub cut_super : IsTrue (has_super dat) → IsTrue (has_super (take (end_of (kept_records dat idx)) dat))
   cut_super e = has_super-take dat (end_of (kept_records dat idx)) e (omega (arith, cut_exact.whole.super, length-take (end_of (kept_records dat idx)) dat))
-
-  -- a place in the index of what is kept tells the needle
-  pub kept_agrees : (id : ℕ) → AgreesAt (StandsIn dat) id (get (index_of (kept_records dat idx)) id) (get (fold_records (kept_records dat idx)).needles id)
-  unfolding kept_records
-  kept_agrees id = index_of-agrees (StandsIn dat) (take (kept dat idx) (records dat)) (All-take (StandsIn dat) (kept dat idx) (records dat) (records-stand dat super)) id
 
   -- and their length is what is used
   pub kept_used : (fold_records (kept_records dat idx)).used ≡ end_of (kept_records dat idx)

@@ -1,11 +1,13 @@
 -- What a vacuum and its renames leave of a plain volume, at one index holder and at the others.
+-- What nothing cites yet is for `volume_vacuum`, to come.
 use Rattle.std.proofs.Common.{◌≡◌, ◌≢◌, ◌⊎◌, inl, inr, ⊎_elim, ℕ, ◌<◌, Bool, true, false, List, [], Option, Some, None, is_some, IsTrue, refl, sym, ◌∙◌, ap, subst}
 use Rattle.std.specs.Prelude.{unwrap_or, IsSome}
 use mathlib.Core.Bool.{true≢false}
 use Rattle.file_names.specs.declared.Kind.TheVariants.{Dat, Idx, Cpd, Cpx}
 use Rattle.volume_forms.specs.Forms.{has_super}
 use Rattle.needle_record.specs.Records.{fold_records}
-use Rattle.image_meaning.specs.Files.{VolumeFiles, max_servers, stands, lose_files, index_at, dat_at, has_index, index_bytes, dat_bytes}
+use Rattle.image_meaning.specs.Files.{VolumeFiles, stands, lose_files, index_at, dat_at, has_index, index_bytes, dat_bytes}
+use Rattle.site_model.specs.Counts.{max_servers}
 use Rattle.image_meaning.specs.Plain.{kept_records, kept_at, index_home, FollowsRecords}
 use Rattle.image_meaning.specs.Meaning.{volume_of}
 use Rattle.image_meaning.specs.Sound.{IsPlain, HasIndex, IsSoundVolume}

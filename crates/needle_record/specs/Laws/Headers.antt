@@ -4,9 +4,9 @@ use Rattle.std.specs.Option.{option_map_or}
 use Rattle.std.proofs.lemmas.List.{take-append-drop, take-take, length-take, length-take-le, length-drop, drop-append-le}
 use Rattle.wire_num.specs.Numbers.{number_of, record_length}
 use Rattle.wire_num.specs.Laws.Number.{number_of-append}
-use Rattle.world_model.specs.Sizes.{size_of}
+use Rattle.world_model.specs.Sizes.{size_of_content}
 use Rattle.needle_record.specs.declared.Record.{Record}
-use Rattle.needle_record.specs.Reading.{needle_at, needle_of, size_at, length_at, content_in, IsWhole, HasHeader}
+use Rattle.needle_record.specs.Reading.{needle_at, needle_of, size_at, length_at, content_in, HasWholeRecord, HasHeader}
 use Rattle.needle_record.specs.Laws.FieldSizes.{on_bind, ok_same}
 use Rattle.needle_record.specs.Laws.Fronts.{found_whole, needle_at-whole, needle_at-append}
 use Rattle.needle_record.specs.Laws.Appended.{found_length}
@@ -28,7 +28,7 @@ exact_read bytes found e =
     let whole = found_whole bytes found e in
     let n : found.1 ≡ length_at bytes = found_length bytes found e in
     let size : size_at (take (length_at bytes) bytes) ≡ size_at bytes = front_number 4 12 (length_at bytes) bytes (omega arith) (omega (arith, whole.has_header)) in
-    let front : IsWhole (take (length_at bytes) bytes) = record {
+    let front : HasWholeRecord (take (length_at bytes) bytes) = record {
       has_header = omega (arith, length-take-le (length_at bytes) bytes whole.has_end);
       has_end = omega (arith, length-take-le (length_at bytes) bytes whole.has_end, ap record_length size);
     } in
@@ -50,7 +50,7 @@ whole_header bytes found e =
     let whole = found_whole bytes found e in
     on_bind (content_in (size_at bytes) (drop 16 (take (length_at bytes) bytes))) _ found (sym (needle_at-whole bytes whole) ∙ e)
     (λ content e1 h1.
-    let size : option_map_or size_of content 0 ≡ size_at bytes = content_in_size (size_at bytes) (drop 16 (take (length_at bytes) bytes)) content (fields_there (size_at bytes) bytes whole.has_end) e1 in
+    let size : option_map_or size_of_content content 0 ≡ size_at bytes = content_in_size (size_at bytes) (drop 16 (take (length_at bytes) bytes)) content (fields_there (size_at bytes) bytes whole.has_end) e1 in
     subst (λ (q : Record × ℕ). HasHeader q.0 bytes) (ok_same _ found h1) (record {
       cookie = sym (front_number 4 0 (length_at bytes) bytes (omega arith) (omega (arith, whole.has_header)));
       id = sym (front_number 8 4 (length_at bytes) bytes (omega arith) (omega (arith, whole.has_header)));

@@ -10,7 +10,8 @@ use Rattle.needle_record.specs.declared.Record.{Record}
 use Rattle.needle_record.specs.declared.NeedleFault.{NeedleFault}
 use Rattle.needle_record.specs.Spelling.{length_of_record, record_size}
 use Rattle.needle_record.specs.Reading.{needle_at}
-use Rattle.needle_record.specs.Records.{Placed, records, records_from, records_on, records_within, max_dat, StandsIn}
+use Rattle.needle_record.specs.Records.{Placed, records, records_from, records_on, records_within, StandsIn}
+use Rattle.world_model.specs.Sizes.{max_dat}
 use Rattle.needle_record.specs.Laws.Fronts.{found_whole, needle_at-append}
 use Rattle.needle_record.specs.Laws.Appended.{found_length}
 use Rattle.needle_record.specs.Laws.Ends.{found_record_length}

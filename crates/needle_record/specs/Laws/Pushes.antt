@@ -6,12 +6,12 @@ use Rattle.std.proofs.Math.ListN.{length-append}
 use Rattle.std.proofs.lemmas.Bool.{eqb-true}
 use Rattle.wire_num.specs.Numbers.{record_length}
 use Rattle.world_model.specs.declared.types.Content.{Content}
-use Rattle.world_model.specs.Sizes.{Fits, size_of}
+use Rattle.world_model.specs.Sizes.{FitsRecord, size_of_content, max_dat}
 use Rattle.volume_forms.specs.Kept.{entry_end, fields_size}
 use Rattle.needle_record.specs.declared.Record.{Record}
 use Rattle.needle_record.specs.Spelling.{HasRoom, canonical, length_of_record, record_size}
 use Rattle.needle_record.specs.Reading.{IsReadAs}
-use Rattle.needle_record.specs.Records.{Placed, records, max_dat, end_from, end_of, entry_of, IsWholeDat}
+use Rattle.needle_record.specs.Records.{Placed, records, end_from, end_of, entry_of, IsWholeDat}
 use Rattle.needle_record.specs.Laws.Spelled.{canonical-spells, spelled-reads, size_fits}
 use Rattle.needle_record.specs.Laws.Ends.{records-push}
 
@@ -20,17 +20,17 @@ end_from-push place [] p = refl
 end_from-push place (q ∷ ps) p = end_from-push (q.0 + length_of_record q.1) ps p
 
 -- what is written is read, and is all of its bytes
-pub canonical_read : (r : Record) → HasRoom r → IfSome r.content Fits → IsReadAs r (canonical r)
+pub canonical_read : (r : Record) → HasRoom r → IfSome r.content FitsRecord → IsReadAs r (canonical r)
 canonical_read r room fits = spelled-reads r (canonical r) (canonical-spells r room fits)
 
-pub size_small : (r : Record) → IfSome r.content Fits → record_size r < 2 ^ 31
+pub size_small : (r : Record) → IfSome r.content FitsRecord → record_size r < 2 ^ 31
 size_small r fits = by_content r.content fits
   where
-    by_content : (o : Option Content) → IfSome o Fits → option_map_or size_of o 0 < 2 ^ 31
+    by_content : (o : Option Content) → IfSome o FitsRecord → option_map_or size_of_content o 0 < 2 ^ 31
     by_content None fits = omega arith
     by_content (Some c) fits = (size_fits c fits).1
 
-module _ (dat : List ℕ) (r : Record) (whole : IsWholeDat dat) (room : HasRoom r) (fits : IfSome r.content Fits) (ends : length dat + length_of_record r ≤ max_dat) where
+module _ (dat : List ℕ) (r : Record) (whole : IsWholeDat dat) (room : HasRoom r) (fits : IfSome r.content FitsRecord) (ends : length dat + length_of_record r ≤ max_dat) where
   pub push_written : records (dat ++ canonical r) ≡ records dat ++ (length dat, r) ∷ []
   push_written = let read = canonical_read r room fits in records-push dat (canonical r) (r, length_of_record r) whole read.reads (sym read.long) ends
 

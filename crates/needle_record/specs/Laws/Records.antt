@@ -1,14 +1,14 @@
 -- Laws of the records of a data file, for the crates above. `Laws` proves them.
 use Rattle.std.specs.Prelude.{◌≡◌, ℕ, ◌+◌, ◌*◌, ◌%◌, ◌<◌, ◌≤◌, List, [], ◌∷◌, ◌++◌, length, take, drop, map, All, Ok, Err, IfSome}
 use Rattle.std.specs.FinMap.{get}
-use Rattle.world_model.specs.Sizes.{Fits}
+use Rattle.world_model.specs.Sizes.{FitsRecord, max_dat}
 use Rattle.world_model.specs.World.{Volume}
 use Rattle.volume_forms.specs.Kept.{entry_end, kept_length}
 use Rattle.needle_record.specs.declared.Record.{Record}
 use Rattle.needle_record.specs.declared.NeedleFault.{NeedleFault}
 use Rattle.needle_record.specs.Spelling.{HasRoom, canonical, length_of_record}
 use Rattle.needle_record.specs.Reading.{needle_at}
-use Rattle.needle_record.specs.Records.{Placed, Index, max_dat, records, records_from, end_of, entry_of, fold_from, fold_records, after_record, index_from, index_of, index_after_content, AreRecords, IsWholeDat, StandsIn, AgreesAt}
+use Rattle.needle_record.specs.Records.{Placed, Index, records, records_from, end_of, entry_of, fold_from, fold_records, after_record, index_from, index_of, index_after_content, AreRecords, IsWholeDat, StandsIn, AgreesAt}
 use Rattle.needle_record.specs.Laws.Appended as appended
 use Rattle.needle_record.specs.Laws.Ends as ends
 use Rattle.needle_record.specs.Laws.Pushes as pushes
@@ -55,20 +55,12 @@ pub records-push : (dat bytes : List ℕ) (found : Record × ℕ) → IsWholeDat
 records-push = ends.records-push
 
 -- a record that is written there
-pub records-write : (dat : List ℕ) (r : Record) → IsWholeDat dat → HasRoom r → IfSome r.content Fits → length dat + length_of_record r ≤ max_dat
+pub records-write : (dat : List ℕ) (r : Record) → IsWholeDat dat → HasRoom r → IfSome r.content FitsRecord → length dat + length_of_record r ≤ max_dat
     → records (dat ++ canonical r) ≡ records dat ++ (length dat, r) ∷ []
 records-write = pushes.push_written
 
-pub whole_dat-write : (dat : List ℕ) (r : Record) → IsWholeDat dat → HasRoom r → IfSome r.content Fits → length dat + length_of_record r ≤ max_dat → IsWholeDat (dat ++ canonical r)
+pub whole_dat-write : (dat : List ℕ) (r : Record) → IsWholeDat dat → HasRoom r → IfSome r.content FitsRecord → length dat + length_of_record r ≤ max_dat → IsWholeDat (dat ++ canonical r)
 whole_dat-write = pushes.whole_pushed
-
--- records end where the last of them does
-pub end_of-push : (ps : List Placed) (p : Placed) → end_of (ps ++ p ∷ []) ≡ p.0 + length_of_record p.1
-end_of-push ps p = pushes.end_from-push 8 ps p
-
--- the first n records end within the file
-pub end_of-take : (dat : List ℕ) (n : ℕ) → 8 ≤ length dat → end_of (take n (records dat)) ≤ length dat
-end_of-take = cuts.cut_end
 
 -- cut where they end, it is these records to its end
 pub records-cut : (dat : List ℕ) (n : ℕ) → 8 ≤ length dat → records (take (end_of (take n (records dat))) dat) ≡ take n (records dat)

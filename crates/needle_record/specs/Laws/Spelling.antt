@@ -1,10 +1,10 @@
 -- Laws of spellings and readings, for the crates above. `Laws` proves them.
 use Rattle.std.specs.Prelude.{◌≡◌, ℕ, ◌%◌, ◌^◌, ◌<◌, ◌≤◌, List, ◌++◌, length, take, Ok, IfSome}
 use Rattle.wire_num.specs.Laws.Number.{AreBytes}
-use Rattle.world_model.specs.Sizes.{Fits}
+use Rattle.world_model.specs.Sizes.{FitsRecord}
 use Rattle.needle_record.specs.declared.Record.{Record}
 use Rattle.needle_record.specs.Spelling.{HasRoom, SpellsNeedle, canonical, length_of_record, record_size}
-use Rattle.needle_record.specs.Reading.{needle_at, IsWhole, IsReadAs, HasHeader}
+use Rattle.needle_record.specs.Reading.{needle_at, HasWholeRecord, IsReadAs, HasHeader}
 use Rattle.needle_record.specs.Laws.Spelled as spelled
 use Rattle.needle_record.specs.Laws.Found as found_laws
 use Rattle.needle_record.specs.Laws.Fronts as fronts
@@ -28,11 +28,11 @@ pub one_spelling : (r s : Record) (a b x y : List ℕ) → SpellsNeedle r a → 
 one_spelling = spelled.one_spelling
 
 -- what is written is a spelling
-pub canonical-spells : (r : Record) → HasRoom r → IfSome r.content Fits → SpellsNeedle r (canonical r)
+pub canonical-spells : (r : Record) → HasRoom r → IfSome r.content FitsRecord → SpellsNeedle r (canonical r)
 canonical-spells = spelled.canonical-spells
 
 -- so it is read again
-pub canonical-reads : (r : Record) → HasRoom r → IfSome r.content Fits → IsReadAs r (canonical r)
+pub canonical-reads : (r : Record) → HasRoom r → IfSome r.content FitsRecord → IsReadAs r (canonical r)
 canonical-reads = pushes.canonical_read
 
 -- what is read is spelled by the bytes that it took
@@ -41,7 +41,7 @@ found-spelled = found_laws.found-spelled
 
 -- ---- what is read at a front
 
-pub found-whole : (bytes : List ℕ) (found : Record × ℕ) → needle_at bytes ≡ Ok found → IsWhole bytes
+pub found-whole : (bytes : List ℕ) (found : Record × ℕ) → needle_at bytes ≡ Ok found → HasWholeRecord bytes
 found-whole = fronts.found_whole
 
 -- it takes as many bytes as its record does
@@ -74,5 +74,5 @@ pub length_of_record-least : (r : Record) → 32 ≤ length_of_record r
 length_of_record-least r = places.record_length-least (record_size r)
 
 -- a size has room in a signed number of four bytes, and is not 0 where there is a content
-pub record_size-fits : (r : Record) → IfSome r.content Fits → record_size r < 2 ^ 31
+pub record_size-fits : (r : Record) → IfSome r.content FitsRecord → record_size r < 2 ^ 31
 record_size-fits = pushes.size_small

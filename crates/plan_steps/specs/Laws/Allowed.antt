@@ -8,7 +8,8 @@ use Rattle.file_names.specs.declared.Kind.TheVariants.{Dat, Idx, Cpd, Cpx, Shard
 use Rattle.file_names.specs.Names.{max_shards}
 use Rattle.volume_forms.specs.Forms.{has_super}
 use Rattle.stripe_layout.specs.Information.{info_of}
-use Rattle.image_meaning.specs.Files.{VolumeFiles, max_servers, index_at, dat_at, bytes_at}
+use Rattle.image_meaning.specs.Files.{VolumeFiles, index_at, dat_at, bytes_at}
+use Rattle.site_model.specs.Counts.{max_servers}
 use Rattle.image_meaning.specs.Plain.{index_home, kept_records, FollowsRecords}
 use Rattle.image_meaning.specs.Coded.{info_at}
 use Rattle.image_meaning.specs.Sound.{Stands}
@@ -16,7 +17,7 @@ use Rattle.image_meaning.specs.Shards.{KeepsCopies}
 use Rattle.image_meaning.specs.Parts.{Parts}
 use Rattle.image_meaning.specs.HeldParts.{IsBeside}
 use Rattle.image_meaning.specs.Laws.Views.{index_named, dat_named}
-use Rattle.plan_steps.specs.Kept.{IsKeptCoded, IsKeptPlain, Forms, IsKept}
+use Rattle.plan_steps.specs.Kept.{IsKeptCoded, IsKeptPlain, Forms, HasAForm}
 use Rattle.plan_steps.specs.Laws.Kept.{beside_same, none_of_none}
 use Rattle.plan_steps.specs.Changes.{IsChanged, TakesShard}
 use Rattle.plan_steps.specs.Laws.Change.{plain_changed, coded_free, coded_new, coded_gone, index_gone, index_new, coded_by, same_index, copies_else, copies_new, copies_gone}
@@ -59,7 +60,7 @@ module _ (t : Parts) (files left : VolumeFiles) (server : ℕ) where
 
 -- ---- all of them
 
-allowed_plain : (f : Forms) (files left : VolumeFiles) (server : ℕ) (kind : Kind) (now : Option (List ℕ)) → IsAllowed f files server kind now → IsChanged files left server kind now → f.changes ≡ true → IsKeptPlain f.kept files → IsKept f left
+allowed_plain : (f : Forms) (files left : VolumeFiles) (server : ℕ) (kind : Kind) (now : Option (List ℕ)) → IsAllowed f files server kind now → IsChanged files left server kind now → f.changes ≡ true → IsKeptPlain f.kept files → HasAForm f left
 allowed_plain f files left server Idx (Some idx) allowed changed changes kept = absurd (some_none (index_home files) kept.some_index allowed.no_index)
 allowed_plain f files left server Idx None allowed changed changes kept = inr (index_gone files left server None changed f.parts kept.none_made refl allowed.only allowed.enough allowed.holds)
 allowed_plain f files left server Dat now allowed changed changes kept = inl (changes, plain_changed files left server Dat now changed f.kept ((λ e. cc), (λ e. cc)) (λ e. cc) (λ has same. allowed has) kept)
@@ -80,7 +81,7 @@ bare_gone : (t : Parts) (files left : VolumeFiles) (server : ℕ) (kind : Kind) 
 bare_gone t files left server kind changed no_index no_shard bare kept =
     coded_free files left server kind None changed t no_index no_shard (λ holder. absurd (not_plain files kept.form.no_index bare holder)) kept
 
-allowed_coded : (f : Forms) (files left : VolumeFiles) (server : ℕ) (kind : Kind) (now : Option (List ℕ)) → server < max_servers → IsAllowed f files server kind now → IsChanged files left server kind now → IsKeptCoded f.parts files → IsKept f left
+allowed_coded : (f : Forms) (files left : VolumeFiles) (server : ℕ) (kind : Kind) (now : Option (List ℕ)) → server < max_servers → IsAllowed f files server kind now → IsChanged files left server kind now → IsKeptCoded f.parts files → HasAForm f left
 allowed_coded f files left server Idx (Some idx) below allowed changed kept = inl (
   allowed.changes,
   index_new files left server (Some idx) changed f.kept below refl allowed.no_index (record {
@@ -122,7 +123,7 @@ allowed_coded f files left server Vif (Some bytes) below allowed changed kept = 
 allowed_coded f files left server Vif None below allowed changed kept = inr (bare_gone f.parts files left server Vif changed ((λ e. cc), (λ e. cc)) (λ i e. cc) allowed kept)
 
 -- What is allowed may be changed.
-pub allowed_may : (f : Forms) (files : VolumeFiles) (server : ℕ) (kind : Kind) (now : Option (List ℕ)) → server < max_servers → IsKept f files → IsAllowed f files server kind now → MayChange f files server kind now
+pub allowed_may : (f : Forms) (files : VolumeFiles) (server : ℕ) (kind : Kind) (now : Option (List ℕ)) → server < max_servers → HasAForm f files → IsAllowed f files server kind now → MayChange f files server kind now
 allowed_may f files server kind now below (inl (changes, kept)) allowed left changed = allowed_plain f files left server kind now allowed changed changes kept
 allowed_may f files server kind now below (inr kept) allowed left changed = allowed_coded f files left server kind now below allowed changed kept
 

@@ -15,7 +15,8 @@ use Rattle.stripe_layout.specs.Stripes.{shards_in_all}
 use Rattle.volume_forms.specs.Forms.{entry_bytes, has_super}
 use Rattle.needle_record.specs.Records.{Placed, records, end_of}
 use Rattle.shard_table.specs.Table.{Row, place_in}
-use Rattle.image_meaning.specs.Files.{VolumeFiles, max_servers, stands, has_index}
+use Rattle.image_meaning.specs.Files.{VolumeFiles, stands, has_index}
+use Rattle.site_model.specs.Counts.{max_servers}
 use Rattle.image_meaning.specs.Plain.{kept_records, FollowsRecords, IsExact}
 use Rattle.image_meaning.specs.Ends.{HasNoFiles, changes_form}
 use Rattle.image_meaning.specs.Meaning.{max_volumes}
@@ -27,7 +28,7 @@ use Rattle.plan_steps.specs.declared.plan.Plan.{Plan}
 use Rattle.plan_steps.specs.declared.plan.Stage.{Stage}
 use Rattle.plan_steps.specs.declared.plan.Stage.TheVariants.{Absent, Registered}
 use Rattle.plan_steps.specs.declared.plan.FileState.{FileState}
-use Rattle.plan_steps.specs.Kept.{IsPlainAt, IsKeptPlain, Forms, AreForms}
+use Rattle.plan_steps.specs.Kept.{StandsPlainAt, IsKeptPlain, Forms, AreForms}
 use Rattle.plan_steps.specs.Planned.{is_encode, is_found, is_found_plain, joined, planned, given}
 use Rattle.plan_steps.specs.Laws.Found.{encode_finds}
 use Rattle.plan_steps.specs.Fitting.{StandsBy, AreStates, FitsStates}
@@ -155,7 +156,7 @@ module _ (files : VolumeFiles) (home : ℕ) (dat idx : List ℕ) (ps : List Plac
   alone_kept = record {
     some_index = ap is_some (lowest-exists (has_index files) home alone.below (ap is_some (alone_index_at files files home dat idx alone))).1;
     none_made = λ server below. no_made server below (files server Cpx) refl;
-    each = λ server has. subst (IsPlainAt ps files) (sym (alone_at files files home dat idx alone server has)) (record {
+    each = λ server has. subst (StandsPlainAt ps files) (sym (alone_at files files home dat idx alone server has)) (record {
       has = (λ i. kept_records (unwrap_or (alone_dat_at files files home dat idx alone i) []) (unwrap_or (alone_index_at files files home dat idx alone i) [])) ∙ exact_kept_records dat idx ps exact;
       follows = subst (λ (b : Option (List ℕ) × Option (List ℕ)). FollowsRecords (unwrap_or b.0 []) (unwrap_or b.1 []))
           (λ i. (sym (alone_dat_at files files home dat idx alone) i, sym (alone_index_at files files home dat idx alone) i)) (exact_follows dat idx ps exact);

@@ -9,7 +9,8 @@ use Rattle.file_names.specs.declared.Kind.{Kind}
 use Rattle.file_names.specs.declared.Kind.TheVariants.{Dat, Idx, Cpd, Cpx, Shard, Ecx, Ecj, Vif}
 use Rattle.file_names.specs.Names.{max_shards}
 use Rattle.needle_record.specs.Records.{Placed}
-use Rattle.image_meaning.specs.Files.{VolumeFiles, max_servers, stands, shard_home, standing, is_holder, index_at, dat_at, has_index}
+use Rattle.image_meaning.specs.Files.{VolumeFiles, stands, shard_home, standing, is_holder, index_at, dat_at, has_index}
+use Rattle.site_model.specs.Counts.{max_servers}
 use Rattle.image_meaning.specs.Plain.{index_home}
 use Rattle.image_meaning.specs.Sound.{Stands, HasIndex, IsHolder}
 use Rattle.image_meaning.specs.Shards.{KeepsCopies}
@@ -18,7 +19,7 @@ use Rattle.image_meaning.specs.Laws.Views.{index_named, same_index_at, same_dat_
 use Rattle.image_meaning.specs.Laws.CodedLoss.{any_range}
 use Rattle.image_meaning.specs.Parts.{Parts}
 use Rattle.image_meaning.specs.HeldParts.{IsBeside, HoldsParts}
-use Rattle.plan_steps.specs.Kept.{IsKeptCoded, IsPlainAt, HasNoneMade, IsKeptPlain}
+use Rattle.plan_steps.specs.Kept.{IsKeptCoded, StandsPlainAt, HasNoneMade, IsKeptPlain}
 use Rattle.plan_steps.specs.Laws.Kept.{beside_same, plain_same, none_of_none}
 use Rattle.plan_steps.specs.Changes.{IsChanged}
 
@@ -223,7 +224,7 @@ module _ (files left : VolumeFiles) (server : ℕ) (now : Option (List ℕ)) (ch
           by_place s h e (inr other) = other (only s (h, ap is_some (sym (elsewhere s other)) ∙ e))
 
   -- An index comes to files without one, beside its data file.
-  pub index_new : (ps : List Placed) → server < max_servers → IsSome now → index_home files ≡ None → IsPlainAt ps left server → IsKeptPlain ps left
+  pub index_new : (ps : List Placed) → server < max_servers → IsSome now → index_home files ≡ None → StandsPlainAt ps left server → IsKeptPlain ps left
   index_new ps below some none at_server = record {
     some_index = ap is_some (lowest-exists (has_index left) server below (ap is_some (here server below refl none_made) ∙ some)).1;
     none_made = λ s h. made_same s ∙ none_made s h;
@@ -233,8 +234,8 @@ module _ (files left : VolumeFiles) (server : ℕ) (now : Option (List ℕ)) (ch
       none_made : HasNoneMade files
       none_made = none_of_none files none
 
-      by_place : (s : ℕ) → HasIndex left s → (s ≡ server) ⊎ (s ≢ server) → IsPlainAt ps left s
-      by_place s has (inl at) = subst (IsPlainAt ps left) (sym at) at_server
+      by_place : (s : ℕ) → HasIndex left s → (s ≡ server) ⊎ (s ≢ server) → StandsPlainAt ps left s
+      by_place s has (inl at) = subst (StandsPlainAt ps left) (sym at) at_server
       by_place s has (inr other) =
           let had = lowest-exists (has_index files) s has.0 (ap is_some (sym (elsewhere s other)) ∙ has.1) in
           absurd (some_none had.0 (sym had.1 ∙ none))

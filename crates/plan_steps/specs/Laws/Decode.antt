@@ -5,7 +5,7 @@ use mathlib.Core.Bool.{true≢false}
 use Rattle.world_model.specs.declared.types.Command.TheVariants.{Decode}
 use Rattle.file_names.specs.declared.Kind.{Kind}
 use Rattle.file_names.specs.declared.Kind.TheVariants.{Dat, Idx, Cpd, Cpx, Shard, Ecx, Ecj, Vif}
-use Rattle.image_meaning.specs.Files.{max_servers}
+use Rattle.site_model.specs.Counts.{max_servers}
 use Rattle.plan_steps.specs.declared.plan.Plan.{Plan}
 use Rattle.plan_steps.specs.Planned.{is_found, is_found_coded}
 use Rattle.plan_steps.specs.Legal.{IsFound, IsNew}

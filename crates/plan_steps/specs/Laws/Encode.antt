@@ -2,10 +2,11 @@
 use Rattle.std.proofs.Common.{◌≡◌, ◌≢◌, ◌⊎◌, inl, inr, ⊎_elim, ℕ, zero, suc, ◌+◌, ◌<◌, ◌≤◌, true, false, List, [], ◌∷◌, ◌++◌, length, map, Some, None, refl, sym, ◌∙◌, ap, arith}
 use Rattle.std.specs.Prelude.{slice_get, ◌==◌}
 use Rattle.std.proofs.lemmas.Bool.{eqb-true, eq-eqb}
+use Rattle.image_meaning.specs.Laws.Options.{none_some, some_is}
 use Rattle.file_names.specs.declared.Kind.{Kind}
 use Rattle.file_names.specs.declared.Kind.TheVariants.{Dat, Idx, Shard, Ecx, Vif}
 use Rattle.stripe_layout.specs.Stripes.{shards_in_all}
-use Rattle.image_meaning.specs.Files.{max_servers}
+use Rattle.site_model.specs.Counts.{max_servers}
 use Rattle.plan_steps.specs.declared.plan.Plan.{Plan}
 use Rattle.plan_steps.specs.Planned.{is_encode, is_found, is_found_plain}
 use Rattle.plan_steps.specs.Laws.Found.{encode_finds}
@@ -14,12 +15,6 @@ use Rattle.plan_steps.specs.Order.{Names, HasBesideBefore, WaitsToRegister, IsAf
 use Rattle.plan_steps.specs.Lists.{encode_names}
 
 -- ---- lists in parts
-
-some_is : {A : Type 0} (x y : A) → Some x ≡ Some y → x ≡ y
-some_is x y e = cc
-
-none_some : {A : Type 0} {x : A} → None ≡ Some x → ⊥
-none_some e = cc
 
 get_front : {A : Type 0} (xs ys : List A) (k : ℕ) (x : A) → slice_get xs k ≡ Some x → (slice_get (xs ++ ys) k ≡ Some x) × (k < length xs)
 get_front [] ys k x e = absurd (none_some e)

@@ -12,7 +12,8 @@ use Rattle.file_names.specs.Names.{IsKind, max_shards}
 use Rattle.stripe_layout.specs.declared.Info.{Info}
 use Rattle.stripe_layout.specs.Stripes.{shards_in_all}
 use Rattle.shard_table.specs.Table.{Row, place_in}
-use Rattle.image_meaning.specs.Files.{VolumeFiles, max_servers, stands, shard_home}
+use Rattle.image_meaning.specs.Files.{VolumeFiles, stands, shard_home}
+use Rattle.site_model.specs.Counts.{max_servers}
 use Rattle.image_meaning.specs.Sound.{Stands}
 use Rattle.image_meaning.specs.Ends.{HasNoFiles}
 use Rattle.image_meaning.specs.Laws.Servers.{lowest-some, lowest-exists}

@@ -2,22 +2,20 @@
 use Rattle.std.proofs.Common.{◌≡◌, ◌≢◌, ◌⊎◌, inl, inr, ⊎_elim, ℕ, zero, suc, ◌<◌, Bool, true, false, List, [], ◌∷◌, Option, Some, None, refl, sym, ◌∙◌, ap, subst}
 use Rattle.std.specs.Prelude.{slice_get, slice_set}
 use Rattle.std.proofs.lemmas.Bool.{cases_eq}
+use Rattle.image_meaning.specs.Laws.Options.{some_is}
 use Rattle.site_model.specs.Disk.{File, Place, Files, IsFirm, firm_file}
 use Rattle.file_names.specs.declared.Kind.{Kind}
 use Rattle.file_names.specs.declared.FileName.{FileName}
-use Rattle.file_names.specs.Names.{IsKind}
+use Rattle.file_names.specs.Names.{IsKind, place_of}
 use Rattle.file_names.specs.Laws.Name.{same_name}
-use Rattle.image_meaning.specs.Files.{place_of, max_servers}
+use Rattle.site_model.specs.Counts.{max_servers}
 use Rattle.image_meaning.specs.Meaning.{max_volumes}
 use Rattle.image_meaning.specs.Laws.Copy.{temp_apart}
 use Rattle.image_meaning.specs.Places.{finals_apart}
 use Rattle.image_meaning.specs.Share.{Share, share_of, finals}
 use Rattle.plan_steps.specs.declared.plan.FileState.{FileState}
-use Rattle.plan_steps.specs.Kept.{Forms, IsKept}
+use Rattle.plan_steps.specs.Kept.{Forms, HasAForm}
 use Rattle.plan_steps.specs.Fitting.{StandsBy, StandsAt, AreStates, IsOther, FitsStates}
-
-some_is : {A : Type 0} (x y : A) → Some x ≡ Some y → x ≡ y
-some_is x y e = cc
 
 pub get_set : {A : Type 0} (xs : List A) (j : ℕ) (x y : A) → slice_get xs j ≡ Some x → slice_get (slice_set xs j y) j ≡ Some y
 get_set [] j x y e = absurd (none_some e)
@@ -101,7 +99,7 @@ module _ (states : List FileState) (j : ℕ) (s next : FileState) (at : slice_ge
 
   -- One file goes on to another stage, and the files fit again.
   pub fits_on : (f : Forms) (given : ℕ → Kind → Option File) (start old new : Share) → AreStates states → FitsStates f given start states old → IsSameBut s.server s.kind old new
-      → StandsAt given new next → IsKept f (finals new) → FitsStates f given start moved new
+      → StandsAt given new next → HasAForm f (finals new) → FitsStates f given start moved new
   fits_on f given start old new are fits same stands kept = record {
     each = λ i a e. ⊎_elim
         (λ is. subst (StandsAt given new) (sym is.1) stands)

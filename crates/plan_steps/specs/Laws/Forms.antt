@@ -1,5 +1,5 @@
 -- The two forms of a volume mean the same: of an encode, which deletes nothing, and of a decode, which writes the
--- deletions behind the data file.
+-- deletions behind the data file. For `plan_code` and `plan_mend`, to come.
 use Rattle.std.proofs.Common.{inr, ◌≡◌, ℕ, ◌+◌, ◌*◌, ◌<◌, ◌≤◌, ◌^◌, Bool, true, false, cond, List, [], ◌∷◌, ◌++◌, length, map, Option, None, refl, sym, ◌∙◌, ap, subst, arith, append_assoc, length-append}
 use Rattle.std.specs.Prelude.{◌||◌, not, nat_eq, flat_map, IfSome}
 use Rattle.std.specs.List.{list_any, AllByRecursion, IsDistinct}
@@ -15,10 +15,10 @@ use Rattle.wire_num.specs.Laws.Number.{length-bytes_of}
 use Rattle.volume_forms.specs.Forms.{entry_bytes, entries, entries_within}
 use Rattle.volume_forms.specs.Laws.Entry.{entries-append}
 use Rattle.world_model.specs.World.{Volume, Needles}
-use Rattle.world_model.specs.Sizes.{Fits}
+use Rattle.world_model.specs.Sizes.{FitsRecord, max_dat, deletion_length}
 use Rattle.needle_record.specs.declared.Record.{Record}
 use Rattle.needle_record.specs.Spelling.{HasRoom, canonical, length_of_record}
-use Rattle.needle_record.specs.Records.{Placed, max_dat, records, end_of, entry_of, fold_records, after_record, IsWholeDat}
+use Rattle.needle_record.specs.Records.{Placed, records, end_of, entry_of, fold_records, after_record, IsWholeDat}
 use Rattle.needle_record.specs.Laws.Spelling.{canonical-reads}
 use Rattle.needle_record.specs.Laws.Records.{records-write, whole_dat-write, fold_records-push, fold_records-used}
 use Rattle.image_meaning.specs.Plain.{IsExact}
@@ -88,16 +88,16 @@ AreIds ids = AllByRecursion (λ id. id < 2 ^ 64) ids
 has_room : (id : ℕ) → id < 2 ^ 64 → HasRoom (deletion id)
 has_room id h = record { cookie = omega arith; id = h; appended = omega arith }
 
-deletion_length : (id : ℕ) → length_of_record (deletion id) ≡ 32
-deletion_length id = refl
+deletion_takes : (id : ℕ) → length_of_record (deletion id) ≡ deletion_length
+deletion_takes id = refl
 
 -- what they make of the volume
 pub record IsJoined (dat : List ℕ) (ids : List ℕ) : Type 0 where
   pub whole : IsWholeDat (dat ++ deletions ids)
-  pub used : (fold_records (records (dat ++ deletions ids))).used ≡ (fold_records (records dat)).used + 32 * length ids
+  pub used : (fold_records (records (dat ++ deletions ids))).used ≡ (fold_records (records dat)).used + deletion_length * length ids
   pub needles : (fold_records (records (dat ++ deletions ids))).needles ≡ taken_out (fold_records (records dat)).needles ids
 
-pub deletions_join : (ids dat : List ℕ) → IsWholeDat dat → AreIds ids → length dat + 32 * length ids ≤ max_dat → IsJoined dat ids
+pub deletions_join : (ids dat : List ℕ) → IsWholeDat dat → AreIds ids → length dat + deletion_length * length ids ≤ max_dat → IsJoined dat ids
 deletions_join [] dat whole fits room = record {
   whole = subst IsWholeDat (sym (append-nil dat)) whole;
   used = ap (λ d. (fold_records (records d)).used) (append-nil dat) ∙ omega arith;
@@ -105,7 +105,7 @@ deletions_join [] dat whole fits room = record {
 }
 deletions_join (id ∷ ids) dat whole fits room =
     let d : Record = deletion id in
-    let long : length dat + length_of_record (deletion id) ≤ max_dat = omega (arith, room, deletion_length id) in
+    let long : length dat + length_of_record (deletion id) ≤ max_dat = omega (arith, room, deletion_takes id) in
     let next_whole = whole_dat-write dat (deletion id) whole (has_room id fits.0) tt long in
     let more : length (dat ++ canonical (deletion id)) ≡ length dat + 32 = length-append dat (canonical (deletion id)) ∙ ap (λ n. length dat + n) (canonical-reads (deletion id) (has_room id fits.0) tt).long in
     let rest = deletions_join ids (dat ++ canonical (deletion id)) next_whole fits.1 (omega (arith, more, room)) in
@@ -114,7 +114,7 @@ deletions_join (id ∷ ids) dat whole fits room =
     ap fold_records (records-write dat (deletion id) whole (has_room id fits.0) tt long) ∙ fold_records-push (records dat) (length dat, deletion id) in
     record {
       whole = subst IsWholeDat moved rest.whole;
-      used = ap (λ d. (fold_records (records d)).used) (sym moved) ∙ rest.used ∙ ap (λ (v : Volume). v.used + 32 * length ids) one ∙ omega arith;
+      used = ap (λ d. (fold_records (records d)).used) (sym moved) ∙ rest.used ∙ ap (λ (v : Volume). v.used + deletion_length * length ids) one ∙ omega arith;
       needles = ap (λ d. (fold_records (records d)).needles) (sym moved) ∙ rest.needles ∙ ap (λ (v : Volume). taken_out v.needles ids) one;
     }
 
@@ -164,8 +164,8 @@ mend_forms t good = record { plain = λ changes. absurd (true≢false (sym chang
 -- a record whose entry is read as it was written
 pub record HasEntry (p : Placed) : Type 0 where
   pub room : HasRoom p.1
-  pub fits : IfSome p.1.content Fits
-  pub place : p.0 < 2 ^ 35
+  pub fits : IfSome p.1.content FitsRecord
+  pub place : p.0 < max_dat
 
 length-entry : (p : Placed) → length (entry_bytes (entry_of p)) ≡ 16
 length-entry p =

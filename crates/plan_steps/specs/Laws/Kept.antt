@@ -24,7 +24,7 @@ use Rattle.image_meaning.specs.Laws.Survivable.{sound_plain}
 use Rattle.image_meaning.specs.Parts.{Parts, AreSoundParts, IsMadeOf, HasAll, HasEnough}
 use Rattle.image_meaning.specs.Laws.Part.{made_home, made_coded, made_enough, means_all, made_sound_coded, made_sound, form_left}
 use Rattle.image_meaning.specs.HeldParts.{IsBeside, held_made, held_all}
-use Rattle.plan_steps.specs.Kept.{IsKeptCoded, IsPlainAt, HasNoneMade, IsKeptPlain, Forms, AreForms, IsKept, IsSameVolume}
+use Rattle.plan_steps.specs.Kept.{IsKeptCoded, StandsPlainAt, HasNoneMade, IsKeptPlain, Forms, AreForms, HasAForm, IsSameVolume}
 
 -- ---- the coded form
 
@@ -79,7 +79,7 @@ some_home (Some s) some = (s, refl)
 some_home None some = absurd (true≢false (sym some))
 
 -- what is kept at a server depends on its index and its data file
-pub plain_same : (ps : List Placed) (files left : VolumeFiles) (server : ℕ) → index_at left server ≡ index_at files server → dat_at left server ≡ dat_at files server → IsPlainAt ps files server → IsPlainAt ps left server
+pub plain_same : (ps : List Placed) (files left : VolumeFiles) (server : ℕ) → index_at left server ≡ index_at files server → dat_at left server ≡ dat_at files server → StandsPlainAt ps files server → StandsPlainAt ps left server
 plain_same ps files left server index dat was = record {
   has = (λ i. kept_records (unwrap_or (dat i) []) (unwrap_or (index i) [])) ∙ was.has;
   follows = subst (λ (b : Option (List ℕ) × Option (List ℕ)). FollowsRecords (unwrap_or b.0 []) (unwrap_or b.1 [])) (λ i. (sym dat i, sym index i)) was.follows;
@@ -128,12 +128,12 @@ none_of_none files none server below = by_file (files server Cpx) refl
     by_file (Some bytes) e = absurd (true≢false (sym (made_has files server (ap is_some e)) ∙ lowest-none (has_index files) none server below))
 
 -- kept files have no index that a vacuum made
-pub kept_none_made : (f : Forms) (files : VolumeFiles) → IsKept f files → HasNoneMade files
+pub kept_none_made : (f : Forms) (files : VolumeFiles) → HasAForm f files → HasNoneMade files
 kept_none_made f files (inl (changes, kept)) = kept.none_made
 kept_none_made f files (inr kept) = none_of_none files kept.form.no_index
 
 -- and where no index stands they are in the coded form
-pub coded_where : (f : Forms) (files : VolumeFiles) → IsKept f files → index_home files ≡ None → IsKeptCoded f.parts files
+pub coded_where : (f : Forms) (files : VolumeFiles) → HasAForm f files → index_home files ≡ None → IsKeptCoded f.parts files
 coded_where f files (inl (changes, kept)) none = absurd (true≢false (sym kept.some_index ∙ ap is_some none))
 coded_where f files (inr kept) none = kept
 
@@ -148,7 +148,7 @@ plain_near : (changes : Bool) (w u : Volume) → changes ≡ true → u.mode ≡
 plain_near changes w u e plain = subst (λ (b : Bool). NearMode b w.mode u.mode) (sym e) (inl plain)
 
 -- Files in one of the two forms keep the volume.
-pub kept_keeps : (w : Volume) (f : Forms) (files : VolumeFiles) → AreForms w f → IsKept f files → Outlasts (NearVolume f.changes (Some w)) files
+pub kept_keeps : (w : Volume) (f : Forms) (files : VolumeFiles) → AreForms w f → HasAForm f files → Outlasts (NearVolume f.changes (Some w)) files
 kept_keeps w f files forms (inl (changes, kept)) = record {
   sound = kept_plain_sound f.kept files kept;
   left = λ lost h.

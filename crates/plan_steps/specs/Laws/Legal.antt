@@ -22,7 +22,8 @@ use Rattle.stripe_layout.specs.declared.Info.{Info}
 use Rattle.stripe_layout.specs.Stripes.{shards_in_all}
 use Rattle.stripe_layout.specs.Information.{info_of}
 use Rattle.shard_table.specs.Table.{Row, place_in}
-use Rattle.image_meaning.specs.Files.{VolumeFiles, max_servers, stands, has_index, is_holder, shard_home, standing}
+use Rattle.image_meaning.specs.Files.{VolumeFiles, stands, has_index, is_holder, shard_home, standing}
+use Rattle.site_model.specs.Counts.{max_servers}
 use Rattle.image_meaning.specs.Plain.{index_home, kept_records, FollowsRecords}
 use Rattle.image_meaning.specs.Laws.Plain.{exact_kept_records, exact_follows}
 use Rattle.image_meaning.specs.Sound.{HasIndex, Stands}
@@ -36,7 +37,7 @@ use Rattle.plan_steps.specs.declared.plan.Plan.{Plan}
 use Rattle.plan_steps.specs.declared.plan.Stage.{Stage}
 use Rattle.plan_steps.specs.declared.plan.Stage.TheVariants.{Absent, Writing, Synced, Registered, Gone}
 use Rattle.plan_steps.specs.declared.plan.FileState.{FileState}
-use Rattle.plan_steps.specs.Kept.{Forms, AreForms, IsKept}
+use Rattle.plan_steps.specs.Kept.{Forms, AreForms, HasAForm}
 use Rattle.plan_steps.specs.Laws.Kept.{kept_none_made}
 use Rattle.plan_steps.specs.Changes.{TakesShard}
 use Rattle.plan_steps.specs.Laws.Change.{fewer_in}
@@ -351,7 +352,7 @@ module _ (f : Forms) (w : Volume) (forms : AreForms w f) (plan : Plan) (start : 
       shard_found : IsFound plan server (Shard i)
       shard_found = subst (IsFound plan server) is found
 
-      coded : f.changes ≡ false → IsKept f now → index_home now ≡ None
+      coded : f.changes ≡ false → HasAForm f now → index_home now ≡ None
       coded e (inl (changes, kept)) = absurd (true≢false (sym changes ∙ e))
       coded e (inr kept) = kept.form.no_index
 

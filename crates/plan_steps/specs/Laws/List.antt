@@ -4,6 +4,7 @@ use Rattle.std.specs.Prelude.{◌==◌, filter, flat_map, slice_get}
 use Rattle.std.specs.List.{list_any, range_with_len}
 use Rattle.std.proofs.Math.Nat.{mod-lt}
 use Rattle.std.proofs.lemmas.Bool.{and_from, eq-eqb, false≢true}
+use Rattle.image_meaning.specs.Laws.Options.{none_some, some_is}
 use Rattle.world_model.specs.declared.types.Command.{Command}
 use Rattle.world_model.specs.declared.types.Command.TheVariants.{Encode, Rebuild, Balance, Decode}
 use Rattle.world_model.specs.declared.types.Ratio.{Ratio}
@@ -11,7 +12,8 @@ use Rattle.file_names.specs.declared.Kind.{Kind}
 use Rattle.file_names.specs.declared.Kind.TheVariants.{Dat, Idx, Cpd, Cpx, Shard, Ecx, Ecj, Vif}
 use Rattle.stripe_layout.specs.Stripes.{shards_in_all}
 use Rattle.shard_table.specs.Table.{Row}
-use Rattle.image_meaning.specs.Files.{max_servers, all_servers}
+use Rattle.image_meaning.specs.Files.{all_servers}
+use Rattle.site_model.specs.Counts.{max_servers}
 use Rattle.image_meaning.specs.Laws.Servers.{lowest-some}
 use Rattle.plan_steps.specs.declared.plan.Plan.{Plan}
 use Rattle.plan_steps.specs.declared.plan.FileState.{FileState}
@@ -28,12 +30,6 @@ use Rattle.plan_steps.specs.Laws.Encode.{AreTargets, encode_shards_wait, encode_
 use Rattle.plan_steps.specs.Laws.Decode.{decode_data_waits, decode_index_waits, decode_found_waits}
 use Rattle.plan_steps.specs.MendList.{Fills, rebuild_fills, balance_fills}
 use Rattle.plan_steps.specs.Laws.Mend.{mend_waits, mend_goes}
-
-some_is : {A : Type 0} (x y : A) → Some x ≡ Some y → x ≡ y
-some_is x y e = cc
-
-none_some : {A : Type 0} {x : A} → None ≡ Some x → ⊥
-none_some e = cc
 
 get_mapped : {A : Type 0} (f : ℕ → A) (a n i : ℕ) → i < n → slice_get (map f (range_with_len a n)) i ≡ Some (f (a + i))
 get_mapped f a zero i h = absurd (omega (arith, h))

@@ -2,12 +2,14 @@
 use Rattle.std.proofs.Common.{◌≡◌, ◌≢◌, ◌⊎◌, inl, inr, ⊎_elim, ℕ, zero, suc, ◌+◌, ◌<◌, ◌≤◌, Bool, true, false, List, [], ◌∷◌, ◌++◌, length, Some, None, refl, sym, ◌∙◌, ap, subst, arith}
 use Rattle.std.specs.Prelude.{◌||◌, ◌&&◌, ◌==◌, not, if◌then◌else◌, slice_get}
 use Rattle.std.proofs.lemmas.Bool.{cases_eq, eq-eqb, eqb-true, ne_eqb, and_from, false≢true}
+use Rattle.image_meaning.specs.Laws.Options.{none_some, some_is}
 use Rattle.file_names.specs.declared.Kind.{Kind}
 use Rattle.file_names.specs.declared.Kind.TheVariants.{Dat, Idx, Cpd, Cpx, Shard, Ecx, Ecj, Vif}
 use Rattle.shard_table.specs.Table.{Row, place_in}
 use Rattle.shard_table.specs.Even.{AreInTurn}
 use Rattle.shard_table.specs.declared.moves.ShardMove.{ShardMove}
-use Rattle.image_meaning.specs.Files.{max_servers, all_servers}
+use Rattle.image_meaning.specs.Files.{all_servers}
+use Rattle.site_model.specs.Counts.{max_servers}
 use Rattle.plan_steps.specs.declared.plan.Plan.{Plan}
 use Rattle.plan_steps.specs.Planned.{held, placed, is_found, is_encode}
 use Rattle.plan_steps.specs.Laws.Found.{coded_finds}
@@ -18,12 +20,6 @@ use Rattle.plan_steps.specs.Plans.{filled, IsPlaced}
 use Rattle.plan_steps.specs.Members.{Has, has_at, at_has, get_front, get_behind, get_either, has_flat, flat_has, has_filter, has_range, has_any, any_has}
 use Rattle.plan_steps.specs.Laws.Move.{moves_fate, IsMoved, IsStill, IsFilled, IsPassed, got_filled, moves_within}
 use Rattle.plan_steps.specs.MendList.{place_short, place_held, found_place, Fills, IsBesideKind, beside_kind, kind_beside, has_if, has_shards, new_targets, first_names, rest_names, target_kind, in_mend, GetsFirst, IsMoveOf}
-
-some_is : {A : Type 0} (x y : A) → Some x ≡ Some y → x ≡ y
-some_is x y e = cc
-
-none_some : {A : Type 0} {x : A} → None ≡ Some x → ⊥
-none_some e = cc
 
 by_bool : (b : Bool) → (b ≡ true) ⊎ (b ≡ false)
 by_bool true = inl refl

@@ -6,17 +6,12 @@ use Rattle.std.specs.List.{list_any, range_with_len}
 use Rattle.std.proofs.lemmas.Bool.{cases_eq, eq-eqb, eqb-true, ne_eqb, false≢true}
 use Rattle.std.proofs.lemmas.List.{get_or-set_same, get_or-set_other}
 use Rattle.std.proofs.lemmas.List.Sums.{sum_by-cons}
+use Rattle.image_meaning.specs.Laws.Options.{none_some, some_is}
 use Rattle.shard_table.specs.Table.{Row, place_in}
 use Rattle.shard_table.specs.Even.{stands_on, count_on, IsFewest, IsMove, AreInTurn, moved, row_after}
 use Rattle.shard_table.specs.declared.moves.ShardMove.{ShardMove}
 use Rattle.plan_steps.specs.Plans.{AreFilled, filled}
 use Rattle.plan_steps.specs.Members.{Has}
-
-some_is : {A : Type 0} (x y : A) → Some x ≡ Some y → x ≡ y
-some_is x y e = cc
-
-none_some : {A : Type 0} {x : A} → None ≡ Some x → ⊥
-none_some e = cc
 
 -- ---- how many shards a server has
 

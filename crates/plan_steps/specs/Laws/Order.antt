@@ -3,11 +3,12 @@ use Rattle.std.proofs.Common.{◌≡◌, ◌≢◌, inl, inr, ⊎_elim, ℕ, zer
 use Rattle.std.specs.Prelude.{slice_get}
 use mathlib.Core.Bool.{true≢false}
 use Rattle.std.proofs.lemmas.Bool.{cases_lt}
+use Rattle.image_meaning.specs.Laws.Options.{none_some, some_is}
 use Rattle.file_names.specs.declared.Kind.{Kind}
 use Rattle.file_names.specs.declared.Kind.TheVariants.{Dat, Idx, Cpd, Cpx, Shard, Ecx, Ecj, Vif}
 use Rattle.file_names.specs.Names.{max_shards}
 use Rattle.shard_table.specs.Table.{Row}
-use Rattle.image_meaning.specs.Files.{max_servers}
+use Rattle.site_model.specs.Counts.{max_servers}
 use Rattle.plan_steps.specs.declared.plan.Plan.{Plan}
 use Rattle.plan_steps.specs.declared.plan.Stage.TheVariants.{Registered, Gone}
 use Rattle.plan_steps.specs.declared.plan.FileState.{FileState}
@@ -17,12 +18,6 @@ use Rattle.plan_steps.specs.Legal.{IsFound, IsNew}
 use Rattle.plan_steps.specs.Order.{Names, names_of, IsUnfinished, IsReached, IsBefore, IsThere, HasBesideBefore, HasNoIndexBefore, HasIndexBefore, WaitsToRegister, WaitsToGo}
 
 -- ---- lists
-
-some_is : {A : Type 0} (x y : A) → Some x ≡ Some y → x ≡ y
-some_is x y e = cc
-
-none_some : {A : Type 0} {x : A} → None ≡ Some x → ⊥
-none_some e = cc
 
 -- the file whose name stands at a place
 pub named_at : {A B : Type 0} (f : A → B) (xs : List A) (k : ℕ) (y : B) → slice_get (map f xs) k ≡ Some y → (x : A) × (slice_get xs k ≡ Some x) × (f x ≡ y)

@@ -7,9 +7,10 @@ use Rattle.site_model.specs.Touches.{touches_append, touches_sync}
 use Rattle.whole_file.specs.Whole.{Clears, WritesWhole}
 use Rattle.whole_file.specs.Whole as whole
 use Rattle.world_model.specs.World.{Volume}
-use Rattle.file_names.specs.Names.{IsKind}
+use Rattle.file_names.specs.Names.{IsKind, place_of}
 use Rattle.shard_table.specs.Table.{Row}
-use Rattle.image_meaning.specs.Files.{VolumeFiles, max_servers, place_of}
+use Rattle.image_meaning.specs.Files.{VolumeFiles}
+use Rattle.site_model.specs.Counts.{max_servers}
 use Rattle.image_meaning.specs.Share.{Share, share_of, finals, IsFirmShare}
 use Rattle.plan_steps.specs.declared.plan.Plan.{Plan}
 use Rattle.plan_steps.specs.declared.plan.Stage.{Stage}

@@ -1,4 +1,5 @@
 -- A run that changes one file which may be changed, or temporary files alone, keeps the volume at every stop, and its shards.
+-- What nothing cites yet is for the running plans of `plan_run`, to come.
 use Rattle.std.proofs.Common.{Bool, ◌≡◌, ◌≢◌, ◌⊎◌, inl, inr, ⊎_elim, ℕ, ◌<◌, true, false, List, Option, Some, None, is_some, refl, sym, ◌∙◌, ap, subst}
 use Rattle.site_model.specs.Disk.{Place, Files, Image, LeftOf, LeftOutside, IsRenamed, firm_file, Disk, Renames, Removes}
 use Rattle.site_model.specs.Disk as disk
@@ -9,7 +10,9 @@ use Rattle.world_model.specs.World.{Volume}
 use Rattle.world_model.specs.declared.types.Command.TheVariants.{Decode}
 use Rattle.file_names.specs.declared.Kind.{Kind}
 use Rattle.file_names.specs.declared.Kind.TheVariants.{Shard}
-use Rattle.image_meaning.specs.Files.{VolumeFiles, max_servers, place_of, files_of}
+use Rattle.image_meaning.specs.Files.{VolumeFiles, files_of}
+use Rattle.file_names.specs.Names.{place_of}
+use Rattle.site_model.specs.Counts.{max_servers}
 use Rattle.image_meaning.specs.Plain.{index_home}
 use Rattle.image_meaning.specs.Meaning.{max_volumes}
 use Rattle.image_meaning.specs.Ends.{NearVolume}
@@ -19,7 +22,7 @@ use Rattle.image_meaning.specs.Share.{Share, share_of, finals, IsFirmShare}
 use Rattle.image_meaning.specs.Shards.{KeepsCopies}
 use Rattle.image_meaning.specs.Outlasts.{Outlasts}
 use Rattle.plan_steps.specs.declared.plan.Plan.{Plan}
-use Rattle.plan_steps.specs.Kept.{Forms, AreForms, IsKept}
+use Rattle.plan_steps.specs.Kept.{Forms, AreForms, HasAForm}
 use Rattle.plan_steps.specs.Laws.Kept.{kept_keeps}
 use Rattle.plan_steps.specs.Changes.{IsChanged, TakesShard}
 use Rattle.plan_steps.specs.Allowed.{IsAllowed}
@@ -125,14 +128,14 @@ same_copies files left same server i h st = (server, (st.0, (λ k. is_some (same
 
 -- ---- what keeps the volume
 
-module _ (plan : Plan) (h : plan.volume < max_volumes) (f : Forms) (start : Share) (old : Disk) (firm : IsFirmShare start → IsFirmShare (share_of old.files plan.volume)) (kept : IsKept f (finals (share_of old.files plan.volume))) where
+module _ (plan : Plan) (h : plan.volume < max_volumes) (f : Forms) (start : Share) (old : Disk) (firm : IsFirmShare start → IsFirmShare (share_of old.files plan.volume)) (kept : HasAForm f (finals (share_of old.files plan.volume))) where
   abbrev now : VolumeFiles
   now = finals (share_of old.files plan.volume)
 
   pub temps_keep : {new : Disk} → Touches (IsTempOf plan.volume) old new → StepKeeps plan f start old new
   temps_keep {new} run = record {
     touches = touches_more (λ k t. (t.0, t.1, true, t.2)) run;
-    leaves = λ is_firm. weaker run.leaves (λ image said left. subst (IsKept f) (sym (temps_same plan.volume h old.files image (firm is_firm) left.0)) kept);
+    leaves = λ is_firm. weaker run.leaves (λ image said left. subst (HasAForm f) (sym (temps_same plan.volume h old.files image (firm is_firm) left.0)) kept);
     copies = λ no_decode. same_copies now (finals (share_of new.files plan.volume)) (λ i server kind. disk.standing (run.others (place_of plan.volume server kind false) (no_temp plan.volume h server kind) i));
   }
 
@@ -142,7 +145,7 @@ module _ (plan : Plan) (h : plan.volume < max_volumes) (f : Forms) (start : Shar
   one_keeps {new} server kind bytes below allowed takes run = record {
     touches = touches_more (λ k. ⊎_elim (λ t. (t.0, t.1, true, t.2)) (λ same. (server, kind, false, same))) run.touches;
     leaves = λ is_firm. weaker (both run.touches.leaves run.leaves) (λ image said left. ⊎_elim
-        (λ same. subst (IsKept f) (sym same) kept)
+        (λ same. subst (HasAForm f) (sym same) kept)
         (λ changed. allowed_may f now server kind bytes below kept allowed (files_of image plan.volume) changed)
         (one_or_same plan.volume h server kind bytes old.files image (firm is_firm) left.0.0 left.1));
     copies = λ no_decode. ⊎_elim

@@ -9,8 +9,9 @@ use Rattle.site_model.specs.Touches.{Touches, touches_more, touches_append, touc
 use Rattle.whole_file.specs.Whole.{Clears, WritesWhole, IsWritten}
 use Rattle.world_model.specs.declared.types.Command.TheVariants.{Decode}
 use Rattle.file_names.specs.declared.Kind.{Kind}
-use Rattle.file_names.specs.Names.{IsKind}
-use Rattle.image_meaning.specs.Files.{VolumeFiles, place_of, max_servers}
+use Rattle.file_names.specs.Names.{IsKind, place_of}
+use Rattle.image_meaning.specs.Files.{VolumeFiles}
+use Rattle.site_model.specs.Counts.{max_servers}
 use Rattle.image_meaning.specs.Plain.{index_home}
 use Rattle.image_meaning.specs.Meaning.{max_volumes}
 use Rattle.image_meaning.specs.Laws.Copy.{temp_apart}
@@ -19,7 +20,7 @@ use Rattle.plan_steps.specs.declared.plan.Plan.{Plan}
 use Rattle.plan_steps.specs.declared.plan.Stage.{Stage}
 use Rattle.plan_steps.specs.declared.plan.Stage.TheVariants.{Absent, Writing, Synced, Registered, Gone}
 use Rattle.plan_steps.specs.declared.plan.FileState.{FileState}
-use Rattle.plan_steps.specs.Kept.{Forms, IsKept}
+use Rattle.plan_steps.specs.Kept.{Forms, HasAForm}
 use Rattle.plan_steps.specs.Changes.{IsChanged, TakesShard}
 use Rattle.plan_steps.specs.Allowed.{IsAllowed}
 use Rattle.plan_steps.specs.Laws.Allowed.{allowed_may}
@@ -137,7 +138,7 @@ module _ (f : Forms) (plan : Plan) (h : plan.volume < max_volumes) (given : ℕ 
     temp_fits next server kind stands =
         fits_on states j s next at server kind f given start (share_of old.files plan.volume) (share_of new.files plan.volume) are fits
         (same_but plan.volume s.server s.kind old.files new.files h named.0 (λ k a b. run.others k b)) stands
-        (subst (IsKept f) (λ i n c. disk.standing (sym (final_same n c) i)) fits.kept)
+        (subst (HasAForm f) (λ i n c. disk.standing (sym (final_same n c) i)) fits.kept)
 
   -- All of the file is made firm.
   module _ (stage : s.stage ≡ Writing) (all : (bytes : List ℕ) → given s.server s.kind ≡ Some (firm_file bytes) → s.length ≡ length bytes) where

@@ -1,5 +1,6 @@
 -- While a plan runs its volume is underway: the files hold what they meant at the start, in a form that the command may have.
 use Rattle.std.proofs.Common.{◌≡◌, inl, inr, ℕ, Bool, true, false, List, [], ◌∷◌, Some, refl, sym, ◌∙◌, ap, subst}
+use Rattle.image_meaning.specs.Laws.Options.{some_is}
 use mathlib.Core.Bool.{true≢false}
 use Rattle.site_model.specs.Disk.{Disk}
 use Rattle.site_model.specs.Leaves.{Leaves, weaker}
@@ -19,13 +20,10 @@ use Rattle.image_meaning.specs.Outlasts.{IsHeld, held_plain, held_coded}
 use Rattle.image_meaning.specs.Near.{IsFormOf, IsUnderway}
 use Rattle.image_meaning.specs.Parts.{Parts}
 use Rattle.image_meaning.specs.HeldParts.{held_all}
-use Rattle.plan_steps.specs.Kept.{Forms, AreForms, IsKept, IsSameVolume}
+use Rattle.plan_steps.specs.Kept.{Forms, AreForms, HasAForm, IsSameVolume}
 use Rattle.plan_steps.specs.Laws.Kept.{fold_mode, kept_plain, kept_plain_sound, kept_plain_means, kept_coded, kept_coded_rules, kept_coded_means}
 use Rattle.plan_steps.specs.Runs.{StepKeeps}
 use Rattle.plan_steps.specs.Progressing.{Running, FitsProgress}
-
-some_is : {A : Type 0} (x y : A) → Some x ≡ Some y → x ≡ y
-some_is x y e = cc
 
 form_plain : (command : Command) (m : Mode) → changes_form command ≡ true → IsFormOf command m mode.Plain
 form_plain (Encode ratio) m e = inl refl
@@ -48,7 +46,7 @@ record IsOf (w : Volume) (f : Forms) (vol : Volume) : Type 0 where
   same : IsSameVolume w vol
   was_coded : f.changes ≡ false → vol.mode ≡ mode.Coded
 
-of_start : (w : Volume) (f : Forms) (start : VolumeFiles) (vol : Volume) → AreForms w f → IsKept f start → volume_of start ≡ Some vol → IsOf w f vol
+of_start : (w : Volume) (f : Forms) (start : VolumeFiles) (vol : Volume) → AreForms w f → HasAForm f start → volume_of start ≡ Some vol → IsOf w f vol
 of_start w f start vol forms (inl (changes, kept)) means =
     let is : fold_records f.kept ≡ vol = some_is (fold_records f.kept) vol (sym (kept_plain_means f.kept start kept) ∙ means) in
     record { same = subst (IsSameVolume w) is (forms.plain changes); was_coded = λ e. absurd (true≢false (sym changes ∙ e)) }
@@ -57,8 +55,8 @@ of_start w f start vol forms (inr kept) means =
     record { same = subst (IsSameVolume w) is forms.coded; was_coded = λ e. ap (λ (u : Volume). u.mode) (sym is) }
 
 -- Kept files are underway.
-pub kept_underway : (command : Command) (w : Volume) (f : Forms) (start now : VolumeFiles) (vol : Volume) → f.changes ≡ changes_form command → AreForms w f → IsKept f start → volume_of start ≡ Some vol
-    → IsKept f now → IsUnderway command vol now
+pub kept_underway : (command : Command) (w : Volume) (f : Forms) (start now : VolumeFiles) (vol : Volume) → f.changes ≡ changes_form command → AreForms w f → HasAForm f start → volume_of start ≡ Some vol
+    → HasAForm f now → IsUnderway command vol now
 kept_underway command w f start now vol changes forms began means (inl (e, kept)) =
     let is = of_start w f start vol forms began means in
     let same = forms.plain e in

@@ -5,6 +5,7 @@ use Rattle.std.specs.List.{position, position_or_len}
 use Rattle.std.specs.Option.{option_map_or}
 use Rattle.std.proofs.lemmas.Bool.{and_parts, and_from, eqb-true, eq-eqb, lt-ltb, false≢true}
 use Rattle.std.proofs.lemmas.Bool.Decides.{nat_tests}
+use Rattle.image_meaning.specs.Laws.Options.{none_some, some_is}
 use Rattle.file_names.specs.declared.Kind.{Kind}
 use Rattle.plan_steps.specs.declared.plan.Plan.{Plan}
 use Rattle.plan_steps.specs.declared.plan.Stage.{Stage}
@@ -15,12 +16,6 @@ use Rattle.plan_steps.specs.Fitting.{AreStates}
 use Rattle.plan_steps.specs.Legal.{HasStage, HasFile}
 use Rattle.plan_steps.specs.Listed.{kind_cases}
 use Rattle.plan_steps.specs.Walk.{same_kind, is_file, is_registered, is_registered_at, stage_at, has_file}
-
-some_is : {A : Type 0} (x y : A) → Some x ≡ Some y → x ≡ y
-some_is x y e = cc
-
-none_some : {A : Type 0} {x : A} → None ≡ Some x → ⊥
-none_some e = cc
 
 -- ---- the first that passes
 

@@ -4,6 +4,7 @@ use Rattle.std.proofs.Common.{◌≡◌, ◌≢◌, ◌⊎◌, inl, inr, ⊎_eli
 use Rattle.std.specs.Prelude.{slice_get, slice_set}
 use Rattle.std.proofs.lemmas.Bool.{cases_eq, cases_lt}
 use Rattle.std.proofs.lemmas.List.{get_or-set_same, get_or-set_other}
+use Rattle.image_meaning.specs.Laws.Options.{none_some, some_is}
 use mathlib.Core.Bool.{true≢false}
 use Rattle.world_model.specs.declared.types.Command.TheVariants.{Decode}
 use Rattle.file_names.specs.declared.Kind.{Kind}
@@ -22,12 +23,6 @@ use Rattle.plan_steps.specs.Laws.Fitting.{get_set, get_set_other, was_in, states
 use Rattle.plan_steps.specs.Legal.{IsFound, IsNew, HasFile, FitsPlaces}
 use Rattle.plan_steps.specs.Order.{names_of, IsUnfinished, IsReached}
 use Rattle.plan_steps.specs.Progressing.{Running, IsOnItsWay, IsNextPlace}
-
-some_is : {A : Type 0} (x y : A) → Some x ≡ Some y → x ≡ y
-some_is x y e = cc
-
-none_some : {A : Type 0} {x : A} → None ≡ Some x → ⊥
-none_some e = cc
 
 same_shard : (i j : ℕ) → ◌≡◌ {A = Kind} (Shard i) (Shard j) → i ≡ j
 same_shard i j e = cc

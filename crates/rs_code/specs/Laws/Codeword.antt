@@ -1,4 +1,4 @@
--- What codewords are to one another.
+-- What codewords are to one another. How far codewords differ is for `rot_scrub`, to come.
 use Rattle.std.proofs.Common.{◌≡◌, inl, inr, ℕ, zero, suc, ◌+◌, ◌<◌, ◌≤◌, ◌≢◌, Bool, true, false, cond, List, [], ◌∷◌, length, map, take, refl, sym, ◌∙◌, ap, arith}
 use Rattle.std.specs.Prelude.{bit_xor, slice_index, ◌==◌}
 use Rattle.std.specs.List.{AllByRecursion, range_with_len}

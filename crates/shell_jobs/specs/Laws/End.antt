@@ -1,4 +1,5 @@
 -- The end of the source: the jobs that are left are run to their ends, in the order of their numbers.
+-- For `weed_shell` with jobs, to come.
 use Rattle.std.proofs.Common.{◌≡◌, ◌≢◌, ℕ, ◌+◌, ◌-◌, ◌*◌, ◌^◌, ◌<◌, ◌≤◌, List, [], ◌∷◌, ◌++◌, take, Some, None, refl, sym, ◌∙◌, ap, subst, arith}
 use Rattle.std.specs.Prelude.{◌==◌, not, if◌then◌else◌, filter}
 use Rattle.std.specs.Option.{option_map_or}

@@ -1,4 +1,4 @@
--- Lines that step a job keep what is known.
+-- Lines that step a job keep what is known. For `weed_shell` with jobs, to come.
 use Rattle.std.proofs.Common.{◌≡◌, ◌≢◌, ◌⊎◌, inl, inr, ⊎_elim, ℕ, zero, suc, ◌+◌, ◌*◌, ◌<◌, ◌≤◌, Bool, true, false, List, [], ◌∷◌, ◌++◌, length, take, take_at, Option, Some, None, IsSome, refl, sym, ◌∙◌, ap, subst, arith}
 use Rattle.std.specs.Prelude.{◌==◌, not, if◌then◌else◌, map, filter, slice_get, option_map, MatchOption}
 use Rattle.std.specs.Option.{option_map_or}

@@ -1,4 +1,5 @@
 -- The steps of a recovery on a coded volume keep it sound, and what it means after any loss that it survives.
+-- For the recovery of coded volumes, to come.
 use Rattle.std.proofs.Common.{◌≡◌, ◌≢◌, ◌⊎◌, inl, inr, ⊎_elim, ℕ, ◌<◌, Bool, false, true, List, [], ◌∷◌, length, Some, sym, ◌∙◌, ap, subst, arith}
 use Rattle.std.proofs.Math.ListN.{length-append}
 use Rattle.std.proofs.lemmas.Bool.{cases_eq}
@@ -9,7 +10,8 @@ use Rattle.file_names.specs.declared.Kind.{Kind}
 use Rattle.file_names.specs.declared.Kind.TheVariants.{Ecj}
 use Rattle.wire_num.specs.Pairs.{pairs, journal_bytes}
 use Rattle.wire_num.specs.Laws.Pair.{AreIds, pairs_of_journal}
-use Rattle.image_meaning.specs.Files.{VolumeFiles, contents, place_of, files_of}
+use Rattle.image_meaning.specs.Files.{VolumeFiles, contents, files_of}
+use Rattle.file_names.specs.Names.{place_of}
 use Rattle.image_meaning.specs.Coded.{deleted_at}
 use Rattle.image_meaning.specs.Meaning.{volume_of, max_volumes}
 use Rattle.image_meaning.specs.Sound.{IsHolder, IsCoded, IsSoundVolume}

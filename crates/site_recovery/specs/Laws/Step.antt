@@ -13,11 +13,12 @@ use Rattle.world_model.specs.declared.types.Mode.TheVariants as mode
 use Rattle.file_names.specs.declared.Kind.{Kind}
 use Rattle.file_names.specs.declared.Kind.TheVariants.{Dat, Idx, Cpd, Cpx, Shard}
 use Rattle.file_names.specs.declared.FileName.{FileName}
-use Rattle.file_names.specs.Names.{IsKind, max_shards}
+use Rattle.file_names.specs.Names.{IsKind, max_shards, place_of}
 use Rattle.file_names.specs.Laws.Name.{same_name}
 use Rattle.volume_forms.specs.Forms.{has_super}
 use Rattle.needle_record.specs.Records.{end_of, fold_records}
-use Rattle.image_meaning.specs.Files.{VolumeFiles, place_of, files_of, lose_files, max_servers, stands, bytes_at, has_index, index_at, dat_at, index_bytes, dat_bytes, shard_home, standing, SameVolume, lowest}
+use Rattle.image_meaning.specs.Files.{VolumeFiles, files_of, lose_files, stands, bytes_at, has_index, index_at, dat_at, index_bytes, dat_bytes, shard_home, standing, SameVolume, lowest}
+use Rattle.site_model.specs.Counts.{max_servers}
 use Rattle.image_meaning.specs.Plain.{kept, kept_records, index_home, FollowsRecords}
 use Rattle.image_meaning.specs.Coded.{ratio_of}
 use Rattle.world_model.specs.Ratios.{data_count}

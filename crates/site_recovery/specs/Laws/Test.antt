@@ -12,12 +12,12 @@ use Rattle.world_model.specs.declared.types.Mode.{Mode}
 use Rattle.world_model.specs.declared.types.Mode.TheVariants as mode
 use Rattle.wire_num.specs.Laws.Number.{AreBytes, bytes_take, bytes_drop}
 use Rattle.file_names.specs.declared.Kind.TheVariants.{Dat, Idx, Shard}
-use Rattle.file_names.specs.Names.{max_shards}
+use Rattle.file_names.specs.Names.{max_shards, place_of}
 use Rattle.volume_forms.specs.Forms.{entries, entries_within, entry_at, entry_bytes}
 use Rattle.volume_forms.specs.Laws.Entry.{length-entries, entry_at-spelled}
 use Rattle.volume_forms.specs.Laws.Kept.{kept_count-le_index, kept_count-le_wanted}
 use Rattle.needle_record.specs.Records.{records, end_of, entry_of, fold_records}
-use Rattle.image_meaning.specs.Files.{VolumeFiles, contents, files_of, temps_of, place_of, stands, has_index, index_at, dat_at, index_bytes, dat_bytes, is_holder, standing}
+use Rattle.image_meaning.specs.Files.{VolumeFiles, contents, files_of, temps_of, stands, has_index, index_at, dat_at, index_bytes, dat_bytes, is_holder, standing}
 use Rattle.image_meaning.specs.Plain.{kept, kept_records, kept_at, index_home, FollowsRecords}
 use Rattle.image_meaning.specs.Coded.{ratio_of}
 use Rattle.world_model.specs.Ratios.{data_count}

@@ -1,6 +1,6 @@
-// What the tests share: files as they are printed, a volume at the one server of a site in memory, and runs of the top call.
+//! What the tests share: files as they are printed, a volume at the one server of a site in memory, and runs of the top call.
 ghost use Rattle.std.specs.Prelude.{◌≡◌, ◌<◌, ◌≤◌, ◌^◌, IsTrue, IsSome, IfOk, IfSome, length};
-ghost use Rattle.world_model.specs.Sizes.{Fits};
+ghost use Rattle.world_model.specs.Sizes.{FitsRecord};
 ghost use Rattle.site_mem.specs.Site.{disk_at};
 ghost use Rattle.dat_volume.specs.Places.{idx_place};
 
@@ -40,7 +40,7 @@ pub const DELETED_IDX: &str = "0000000000000001000000010000000e00000000000000010
 pub const FIRST: &str =
     "volume.create -volumeId=7 -server=0\nput 7 1 0000002a 313233343536373839\n";
 
-/// The super block of a new volume.
+// The super block of a new volume.
 const NEW_BLOCK: SuperBlock = SuperBlock {
     version: 3,
     placement: 0,
@@ -48,7 +48,7 @@ const NEW_BLOCK: SuperBlock = SuperBlock {
     revision: 0,
 };
 
-/// The greatest length of a data file.
+// The greatest length of a data file.
 const MAX_DAT: u64 = 1 << 35;
 
 #[derive(Drop)]
@@ -78,7 +78,7 @@ impl Running {
     }
 
     pub fn put(&mut self, rt: &impl Abort, alloc: Global, needle: &Record) -> Result<(), Fail>
-        requires { IfSome needle.now.content Fits }
+        requires { IfSome needle.now.content FitsRecord }
     {
         let end = self
             .volume
@@ -143,7 +143,7 @@ pub fn has_index(alloc: Global, site: &MemSite) -> Result<bool, AllocError>
 pub fn needle(alloc: Global, id: u64, cookie: u32, bytes: &[u8]) -> Result<Record, AllocError>
     requires some { 0 < length bytes.now }
     requires most { length bytes.now ≤ 2 ^ 21 }
-    ensures { IfOk result (λ made. IfSome made.content Fits) }
+    ensures { IfOk result (λ made. IfSome made.content FitsRecord) }
 {
     let content = Content {
         bytes: Bytes::new(Vec::from_slice(alloc, bytes)?),
@@ -164,7 +164,7 @@ pub fn needle(alloc: Global, id: u64, cookie: u32, bytes: &[u8]) -> Result<Recor
 
 /// The deletion of a needle.
 pub fn deletion(id: u64, cookie: u32) -> Record
-    ensures { IfSome result.content Fits }
+    ensures { IfSome result.content FitsRecord }
 {
     Record {
         cookie,

@@ -1,5 +1,5 @@
-// Sites that are recovered: what the rules say of one server's files, and a recovery that is stopped within each of its
-// calls.
+//! Sites that are recovered: what the rules say of one server's files, and a recovery that is stopped within each of its
+//! calls.
 ghost use Rattle.std.specs.Prelude.{◌≡◌, IfOk};
 
 use super::helpers::{DAT, DELETED_IDX, IDX, ONE_DAT, ONE_IDX, SERVER, VOLUME};
@@ -10,13 +10,13 @@ use std::alloc::Global;
 use std::process::Abort;
 use std::test::Fail;
 
-/// The records of `DELETED_IDX`: "123456789" under id 1, and the deletion of id 1.
+// The records of `DELETED_IDX`: "123456789" under id 1, and the deletion of id 1.
 const DELETED_DAT: &str =
     "03000000000000000000002a00000000000000010000000e00000009313233343536373839\
      00e30692830000000000000000000000000000\
      0000002a00000000000000010000000000000000000000000000000000000000";
 
-/// What a recovery makes of a volume's two files at one server.
+// What a recovery makes of a volume's two files at one server.
 #[derive(Clone, Copy)]
 enum Outcome {
     /// So many bytes of each are kept.
@@ -27,7 +27,7 @@ enum Outcome {
 
 use Outcome::{Kept, Unsound};
 
-/// The files in hexadecimal, the data file absent where it is `None`, and what becomes of them.
+// The files in hexadecimal, the data file absent where it is `None`, and what becomes of them.
 type Row = (Option<&'static str>, &'static str, Outcome);
 
 const ROWS: [Row; 13] = [

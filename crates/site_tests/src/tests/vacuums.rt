@@ -1,4 +1,4 @@
-// Openings of volumes whose vacuum was stopped.
+//! Openings of volumes whose vacuum was stopped.
 use super::helpers::{data_with, holds, index_with};
 use site_mem::{MemSite, Tear};
 use site_recovery::recover;
@@ -6,10 +6,10 @@ use std::alloc::Global;
 use std::process::Abort;
 use std::test::Fail;
 
-/// The data file that a vacuum makes where no needle is live: without records, and its revision is raised by one.
+// The data file that a vacuum makes where no needle is live: without records, and its revision is raised by one.
 const VACUUMED: [u8; 8] = [3, 0, 0, 0, 1, 0, 0, 0];
 
-/// A data file that is longer than its super block.
+// A data file that is longer than its super block.
 const LONG: &[u8] = b"123456789";
 
 const TEARS: [Tear; 4] = [Tear::None, Tear::All, Tear::Half, Tear::Fill(0xff)];

@@ -1,4 +1,4 @@
-// Files that are opened, and the needles that are read of them.
+//! Files that are opened, and the needles that are read of them.
 ghost use Rattle.std.specs.Prelude.{◌≡◌, IfOk};
 
 use super::helpers::{

@@ -1,4 +1,4 @@
-// A run of puts and deletions that is stopped within each of its calls, and within each call of the opening that follows.
+//! A run of puts and deletions that is stopped within each of its calls, and within each call of the opening that follows.
 ghost use Rattle.std.specs.Prelude.{◌≡◌, ◌≤◌, ◌<◌};
 ghost use Rattle.site_mem.specs.Site.{counts_at};
 
@@ -8,16 +8,16 @@ use std::alloc::Global;
 use std::process::Abort;
 use std::test::Fail;
 
-/// The calls in which a volume is made: two appends, two syncs and two renames.
+// The calls in which a volume is made: two appends, two syncs and two renames.
 const MAKING: u64 = 6;
 
-/// The calls of a put: an append and a sync for each file.
+// The calls of a put: an append and a sync for each file.
 const PUTTING: u64 = 4;
 
-/// The puts of the run.
+// The puts of the run.
 const PUTS: u64 = 4;
 
-/// What the needle has after so many puts of the run: its cookie and its data.
+// What the needle has after so many puts of the run: its cookie and its data.
 fn needle_after(puts: u64, id: u64) -> Option<(u32, &'static [u8])> {
     match (id, puts) {
         (1, 1 | 2) => Some((0x2a, b"123456789")),

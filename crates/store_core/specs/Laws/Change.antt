@@ -10,7 +10,7 @@ use Rattle.world_model.specs.declared.types.Refusal.TheVariants as refusal
 use Rattle.world_model.specs.declared.types.Line.{Line}
 use Rattle.world_model.specs.declared.types.Line.TheVariants as line
 use Rattle.world_model.specs.declared.types.Reply.TheVariants as reply
-use Rattle.world_model.specs.Sizes.{length_of, is_too_large}
+use Rattle.world_model.specs.Sizes.{length_of_content, is_too_large, deletion_length, max_dat}
 use Rattle.world_model.specs.World.{Needle, Volume, World, with_changed}
 use Rattle.world_model.specs.Moves.{is_coded, is_sealed, when, first, has_none, has_other_cookie, refusal_of, grammatical, Allowed, Accepted, next_world}
 use Rattle.needle_record.specs.declared.Record.{Record}
@@ -98,7 +98,7 @@ module _ (store : Store) (servers : ℕ) (files : Files) (fits : Fits store serv
       ∷ when (is_sealed vol.mode) refusal.ReadOnly
       ∷ when (length content.bytes == 0) refusal.Empty
       ∷ when (is_too_large content) refusal.TooLarge
-      ∷ when (nat_lt store.settings.limit (vol.used + length_of content)) refusal.Full
+      ∷ when (nat_lt store.settings.limit (vol.used + length_of_content content)) refusal.Full
       ∷ when (has_other_cookie vol.needles id cookie) refusal.Cookie
       ∷ []
 
@@ -106,7 +106,7 @@ module _ (store : Store) (servers : ℕ) (files : Files) (fits : Fits store serv
   delete_tests vol =
       None
       ∷ when (is_sealed vol.mode) refusal.ReadOnly
-      ∷ when (nat_lt (2 ^ 35) (vol.used + 32)) refusal.Full
+      ∷ when (nat_lt max_dat (vol.used + deletion_length)) refusal.Full
       ∷ when (has_none vol.needles id) refusal.NotFound
       ∷ when (has_other_cookie vol.needles id cookie) refusal.Cookie
       ∷ []
@@ -128,22 +128,22 @@ module _ (store : Store) (servers : ℕ) (files : Files) (fits : Fits store serv
     put_refuses content =
         readable_rows d false (world.volumes v) (plain.ps, holds_there store servers files fits v below d false had) (put_tests content)
         ∙ ap (λ m. first (None ∷ when (is_coded m) refusal.Coded ∷ when (is_sealed m) refusal.ReadOnly ∷ when (length content.bytes == 0) refusal.Empty ∷ when (is_too_large content) refusal.TooLarge
-        ∷ when (nat_lt store.settings.limit (meant.used + length_of content)) refusal.Full ∷ when (has_other_cookie meant.needles id cookie) refusal.Cookie ∷ [])) (fold_records-mode plain.ps)
+        ∷ when (nat_lt store.settings.limit (meant.used + length_of_content content)) refusal.Full ∷ when (has_other_cookie meant.needles id cookie) refusal.Cookie ∷ [])) (fold_records-mode plain.ps)
         ∙ ap (λ n. first (when (length content.bytes == 0) refusal.Empty ∷ when (is_too_large content) refusal.TooLarge
-        ∷ when (nat_lt store.settings.limit (n + length_of content)) refusal.Full ∷ when (has_other_cookie meant.needles id cookie) refusal.Cookie ∷ [])) is_used
-        ∙ put_rows (length content.bytes == 0) (is_too_large content) (nat_lt store.settings.limit (d.used + length_of content)) (has_other_cookie meant.needles id cookie)
+        ∷ when (nat_lt store.settings.limit (n + length_of_content content)) refusal.Full ∷ when (has_other_cookie meant.needles id cookie) refusal.Cookie ∷ [])) is_used
+        ∙ put_rows (length content.bytes == 0) (is_too_large content) (nat_lt store.settings.limit (d.used + length_of_content content)) (has_other_cookie meant.needles id cookie)
 
     -- a deletion is refused by the slot, or else by the needle
     pub delete_refuses :
         refusal_of world (line.Delete v id cookie)
-        ≡ or_else (if nat_lt (2 ^ 35) (d.used + 32) then Some refusal.Full else None)
+        ≡ or_else (if nat_lt max_dat (d.used + deletion_length) then Some refusal.Full else None)
         (first (when (has_none meant.needles id) refusal.NotFound ∷ when (has_other_cookie meant.needles id cookie) refusal.Cookie ∷ []))
     delete_refuses =
         readable_rows d false (world.volumes v) (plain.ps, holds_there store servers files fits v below d false had) delete_tests
-        ∙ ap (λ m. first (None ∷ when (is_sealed m) refusal.ReadOnly ∷ when (nat_lt (2 ^ 35) (meant.used + 32)) refusal.Full
+        ∙ ap (λ m. first (None ∷ when (is_sealed m) refusal.ReadOnly ∷ when (nat_lt max_dat (meant.used + deletion_length)) refusal.Full
         ∷ when (has_none meant.needles id) refusal.NotFound ∷ when (has_other_cookie meant.needles id cookie) refusal.Cookie ∷ [])) (fold_records-mode plain.ps)
-        ∙ ap (λ n. first (when (nat_lt (2 ^ 35) (n + 32)) refusal.Full ∷ when (has_none meant.needles id) refusal.NotFound ∷ when (has_other_cookie meant.needles id cookie) refusal.Cookie ∷ [])) is_used
-        ∙ delete_rows (nat_lt (2 ^ 35) (d.used + 32)) (has_none meant.needles id) (has_other_cookie meant.needles id cookie)
+        ∙ ap (λ n. first (when (nat_lt max_dat (n + deletion_length)) refusal.Full ∷ when (has_none meant.needles id) refusal.NotFound ∷ when (has_other_cookie meant.needles id cookie) refusal.Cookie ∷ [])) is_used
+        ∙ delete_rows (nat_lt max_dat (d.used + deletion_length)) (has_none meant.needles id) (has_other_cookie meant.needles id cookie)
 
     -- what the slot doesn't refuse is a change
     pub put_change : (content : Content) (now : ℕ) → content_refusal content d.used store.settings.limit ≡ None
@@ -156,7 +156,7 @@ module _ (store : Store) (servers : ℕ) (files : Files) (fits : Fits store serv
           ∙ put_by_needle cookie id now content (at_id meant.needles id);
     }
 
-    pub delete_change : (now : ℕ) → (if nat_lt (2 ^ 35) (d.used + 32) then Some refusal.Full else None) ≡ None
+    pub delete_change : (now : ℕ) → (if nat_lt max_dat (d.used + deletion_length) then Some refusal.Full else None) ≡ None
         → IsChange world v meant (record { cookie = cookie; id = id; content = None; appended = now }) (line.Delete v id cookie)
     delete_change now free = record {
       next = refl;

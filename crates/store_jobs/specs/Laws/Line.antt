@@ -1,4 +1,4 @@
--- The lines of jobs.
+-- The lines of jobs. For the store with jobs, to come.
 use Rattle.std.proofs.Common.{◌≡◌, ◌⊎◌, ℕ, Bool, true, false, List, [], ◌∷◌, Option, Some, None, refl, sym, ◌∙◌, ap, subst}
 use Rattle.std.specs.Prelude.{◌==◌, if◌then◌else◌, map, option_map, MatchOption}
 use Rattle.std.specs.Option.{option_map_or}

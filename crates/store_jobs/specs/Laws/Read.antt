@@ -1,4 +1,4 @@
--- What a get finds of a volume that a job has: what it held as the job began.
+-- What a get finds of a volume that a job has: what it held as the job began. For the store with jobs, to come.
 use Rattle.std.proofs.Common.{◌≡◌, ℕ, Bool, true, false, Some, refl, sym, ◌∙◌, ap, subst}
 use Rattle.std.specs.Prelude.{IsTrue, List, Option, MatchBool}
 use Rattle.world_model.specs.World.{Volume}

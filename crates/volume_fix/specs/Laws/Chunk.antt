@@ -9,7 +9,7 @@ use Rattle.wire_num.specs.Numbers.{number_of}
 use Rattle.wire_num.specs.Laws.Number.{number_of-append}
 use Rattle.volume_forms.specs.declared.Entry.{Entry}
 use Rattle.volume_fix.specs.declared.Past.{Past}
-use Rattle.volume_fix.specs.Walk.{header_length, id_of, size_of, Walk, LeavesNoHeader, entry_if_within, entry_or_past, walk}
+use Rattle.volume_fix.specs.Walk.{header_length, id_of, entry_size, Walk, LeavesNoHeader, entry_if_within, entry_or_past, walk}
 use Rattle.volume_fix.specs.Laws.Walk.{EndsWithin, ends_within, with_entries, ended, walk-short, walk-past, walk-found}
 
 -- What a walk over bytes says when more bytes follow: where it came to a next place, it goes on from there, and where it came to a record past the end, it says the same.
@@ -31,7 +31,7 @@ drop-append (suc n) (x ∷ xs) ys = drop-append n xs ys ∙ ap (λ m. drop n xs 
 entry_or_past-append : (end at : ℕ) (xs ys : List ℕ) → header_length ≤ length xs → entry_or_past end at (xs ++ ys) ≡ entry_or_past end at xs
 entry_or_past-append end at xs ys h =
     let id : id_of (xs ++ ys) ≡ id_of xs = ap (number_of 8) (drop-append-le 4 xs ys (omega arith)) ∙ number_of-append 8 (drop 4 xs) ys (omega (arith, length-drop 4 xs)) in
-    let size : size_of (xs ++ ys) ≡ size_of xs = ap (number_of 4) (drop-append-le 12 xs ys (omega arith)) ∙ number_of-append 4 (drop 12 xs) ys (omega (arith, length-drop 12 xs)) in
+    let size : entry_size (xs ++ ys) ≡ entry_size xs = ap (number_of 4) (drop-append-le 12 xs ys (omega arith)) ∙ number_of-append 4 (drop 12 xs) ys (omega (arith, length-drop 12 xs)) in
     λ i. entry_if_within end at (id i) (size i)
 
 -- fewer bytes than a header has

@@ -6,7 +6,7 @@ use Rattle.wire_num.specs.Numbers.{record_length}
 use Rattle.volume_forms.specs.declared.Entry.{Entry}
 use Rattle.volume_forms.specs.Forms.{entry_for}
 use Rattle.volume_fix.specs.declared.Past.{Past}
-use Rattle.volume_fix.specs.Walk.{header_length, id_of, size_of, is_past, max_size, Walk, entry_or_past, walk_on, walk_within, walk}
+use Rattle.volume_fix.specs.Walk.{header_length, id_of, entry_size, is_past, max_size, Walk, entry_or_past, walk_on, walk_within, walk}
 
 -- what is known of a record that isn't past the end
 pub record EndsWithin (end at : ℕ) (e : Entry × ℕ) : Type 0 where
@@ -18,13 +18,13 @@ least_length size = omega arith
 
 pub ends_within : (end at : ℕ) (bytes : List ℕ) (e : Entry × ℕ) → entry_or_past end at bytes ≡ Ok e → EndsWithin end at e
 ends_within end at bytes e =
-    cond_both (is_past end at (size_of bytes)) _ _ (λ (r : Result (Entry × ℕ) Past). r ≡ Ok e → EndsWithin end at e)
+    cond_both (is_past end at (entry_size bytes)) _ _ (λ (r : Result (Entry × ℕ) Past). r ≡ Ok e → EndsWithin end at e)
     (λ past h. absurd cc)
     (λ fine h.
-    let same : (entry_for (id_of bytes) at (size_of bytes), record_length (size_of bytes)) ≡ e = cc in
-    let length_is : record_length (size_of bytes) ≡ e.1 = ap (λ (f : Entry × ℕ). f.1) same in
-    let near : at + record_length (size_of bytes) ≤ end = ltb-false end (at + record_length (size_of bytes)) (or_parts _ (nat_lt max_size (size_of bytes)) fine).0 in
-    record { least = omega (arith, least_length (size_of bytes), length_is); within = omega (arith, near, length_is) })
+    let same : (entry_for (id_of bytes) at (entry_size bytes), record_length (entry_size bytes)) ≡ e = cc in
+    let length_is : record_length (entry_size bytes) ≡ e.1 = ap (λ (f : Entry × ℕ). f.1) same in
+    let near : at + record_length (entry_size bytes) ≤ end = ltb-false end (at + record_length (entry_size bytes)) (or_parts _ (nat_lt max_size (entry_size bytes)) fine).0 in
+    record { least = omega (arith, least_length (entry_size bytes), length_is); within = omega (arith, near, length_is) })
 
 -- ---- each step
 

@@ -4,20 +4,23 @@ use Rattle.plan_steps.specs.Progressing.{running}
 use Rattle.plan_run.proofs.Finished.{told_at, grow_keeps, grow_fits}
 use Rattle.plan_run.proofs.writing.grow_file.Goals as goal
 
-pub returns-in-Ok-clause-keeps : goal.returns-in-Ok-clause-keeps
-returns-in-Ok-clause-keeps g c = λ told.
-    grow_keeps (running c.args.plan.now c.args.progress.now) (g.T.Site.servers c.args.site.now) c.args.at c.args.temp.now c.args.name.now c.requires.file c.index-file.result.now c.index-file.ensures
-    (g.T.Site.disk c.args.site.now) (g.T.Site.disk c.append.new.self) c.args.piece.now (c.append.ensures.effect told)
+pub returns-in-Ok-clause-effect : goal.returns-in-Ok-clause-effect
+returns-in-Ok-clause-effect g c = λ told. record {
+  kept =
+      grow_keeps (running c.args.plan.now c.args.progress.now) (g.T.Site.servers c.args.site.now) c.args.at c.args.temp.now c.args.name.now c.requires.file c.index-file.result.now c.index-file.ensures
+      (g.T.Site.disk c.args.site.now) (g.T.Site.disk c.append.new.self) c.args.piece.now (c.append.ensures.effect told);
+  fitting =
+      grow_fits (running c.args.plan.now c.args.progress.now) (g.T.Site.servers c.args.site.now) c.args.at c.args.temp.now c.args.name.now c.requires.file c.index-file.result.now c.index-file.ensures
+      (g.T.Site.disk c.args.site.now) (g.T.Site.disk c.append.new.self) c.args.piece.now (c.append.ensures.effect told) (c.in-Ok.ensures.done told);
+}
 
-pub returns-in-Err-clause-keeps : goal.returns-in-Err-clause-keeps
-returns-in-Err-clause-keeps g c = λ told.
-    grow_keeps (running c.args.plan.now c.args.progress.now) (g.T.Site.servers c.args.site.now) c.args.at c.args.temp.now c.args.name.now c.requires.file c.index-file.result.now c.index-file.ensures
-    (g.T.Site.disk c.args.site.now) (g.T.Site.disk c.append.new.self) c.args.piece.now (c.append.ensures.effect told)
-
-pub returns-in-Ok-clause-fits : goal.returns-in-Ok-clause-fits
-returns-in-Ok-clause-fits g c = λ told.
-    grow_fits (running c.args.plan.now c.args.progress.now) (g.T.Site.servers c.args.site.now) c.args.at c.args.temp.now c.args.name.now c.requires.file c.index-file.result.now c.index-file.ensures
-    (g.T.Site.disk c.args.site.now) (g.T.Site.disk c.append.new.self) c.args.piece.now (c.append.ensures.effect told) (c.in-Ok.ensures.done told)
+pub returns-in-Err-clause-effect : goal.returns-in-Err-clause-effect
+returns-in-Err-clause-effect g c = λ told. record {
+  kept =
+      grow_keeps (running c.args.plan.now c.args.progress.now) (g.T.Site.servers c.args.site.now) c.args.at c.args.temp.now c.args.name.now c.requires.file c.index-file.result.now c.index-file.ensures
+      (g.T.Site.disk c.args.site.now) (g.T.Site.disk c.append.new.self) c.args.piece.now (c.append.ensures.effect told);
+  fitting = tt;
+}
 
 pub returns-in-Ok-clause-state : goal.returns-in-Ok-clause-state
 returns-in-Ok-clause-state g c = record {

@@ -1,12 +1,12 @@
 use Rattle.site_model.specs.Disk.{cut_to}
-use Rattle.site_mem.proofs.Keeping.{place_kept, apart_changed, files_changed}
+use Rattle.site_mem.proofs.Keeping.{place_stays, apart_changed, files_changed}
 use Rattle.site_mem.proofs.contents.Contents.cut.Goals as goal
 
 pub invariant_of-self : goal.invariant_of-self
 invariant_of-self c =
     let here = c.in-Some.ensures in
     let apart = c.args.self.now.apart in
-    record { apart = apart_changed _ _ _ here apart c.cut.new.self (place_kept _ _ _ here apart _ c.cut.new.self c.index_mut.ensures.value c.cut.ensures.place) }
+    record { apart = apart_changed _ _ _ here apart c.cut.new.self (place_stays _ _ _ here apart _ c.cut.new.self c.index_mut.ensures.value c.cut.ensures.place) }
 
 pub returns-in-Some-clause-files : goal.returns-in-Some-clause-files
 returns-in-Some-clause-files c =

@@ -9,12 +9,12 @@ pub invariant_of-self : goal.invariant_of-self
 invariant_of-self c =
     let old = c.args.self.now in
     let steps = steps_from c.enter.result c.enter.ensures.ok c.enter.ensures.err in
-    let more : old.tally.calls ≤ c.count.new.self.calls = omega (arith, c.count.ensures.calls, c.next-number.ensures.number, c.next-number.ensures.later) in
+    let more : old.tally.calls ≤ c.count.new.tally.calls = omega (arith, c.count.ensures.calls, c.next-number.ensures.number, c.next-number.ensures.later) in
     record {
       some = old.some;
       few = old.few;
-      numbered = numbered_stepped old.tally.calls c.count.new.self.calls _ steps more (omega (arith, c.count.ensures.calls, c.next-number.ensures.number)) old.numbered;
-      since = since_stepped old.tally.calls c.count.new.self.calls _ steps more old.since;
+      numbered = numbered_stepped old.tally.calls c.count.new.tally.calls _ steps more (omega (arith, c.count.ensures.calls, c.next-number.ensures.number)) old.numbered;
+      since = since_stepped old.tally.calls c.count.new.tally.calls _ steps more old.since;
       within = within_stepped old.servers _ steps c.requires.within old.within;
       asked = calls_stepped _ steps (call_asked_for _ _ c.requires.call) old.asked;
     }

@@ -1,6 +1,6 @@
 use Rattle.std.proofs.Common.{ℕ, refl, arith}
-use Rattle.site_mem.proofs.Fills.{filled}
-use Rattle.site_mem.proofs.tally.Tally.new.Goals as goal
+use Rattle.site_model.proofs.Fills.{filled}
+use Rattle.site_model.proofs.tally.Tally.new.Goals as goal
 
 pub invariant_of-result : goal.invariant_of-result
 invariant_of-result c = record {

@@ -1,10 +1,14 @@
--- The counts of a site over folders.
-use Rattle.std.specs.Prelude.{◌≡◌, ℕ, slice_index}
+-- The counts that an implementation of a site keeps.
+use Rattle.std.specs.Prelude.{◌≡◌, ℕ, ◌+◌, ◌-◌, ◌^◌, min, slice_index}
 use Rattle.site_model.specs.Counts.{Counts}
-use Rattle.site_dir.specs.declared.tally.Tally.{Tally}
+use Rattle.site_model.specs.declared.tally.Tally.{Tally}
 
 abbrev pub counts_of : Tally → Counts
 counts_of t = record { faults = λ s. slice_index t.faults s; write_faults = λ s. slice_index t.write_faults s; say_faults = t.say_faults; calls = t.calls; widest = t.widest }
+
+-- the number of the next call, which ends at its type's last value
+abbrev pub next_call : Tally → ℕ
+next_call t = min (t.calls + 1) (2 ^ 64 - 1)
 
 -- nothing was counted
 pub record AreNone (c : Counts) : Type 0 where

@@ -1,14 +1,15 @@
-// How often devices failed, and how much was asked of them.
+//! How often devices failed, and how much was asked of them.
 ghost use Rattle.std.specs.Prelude.{◌≤◌, ◌-◌, ◌^◌};
-ghost use Rattle.site_mem.specs.Fits.{AllFit};
+ghost use Rattle.site_model.specs.Counts.{AllFit};
 
-use crate::asked::{Asked, Request};
+use crate::PLACES;
 
-/// The counts of a site, each of which ends at its type's last value.
+/// The counts of a site, each of which ends at its type's last value: what an implementation of `Site` keeps, and
+/// shows as its `counts`.
 #[derive(Drop)]
 pub struct Tally {
-    pub faults: [u64; 64],
-    pub write_faults: [u64; 64],
+    pub faults: [u64; PLACES],
+    pub write_faults: [u64; PLACES],
     pub say_faults: u64,
     pub calls: u64,
     pub widest: u64,
@@ -19,17 +20,17 @@ pub struct Tally {
 }
 
 impl Tally {
-    ghost use Rattle.std.specs.Prelude.{◌≡◌, ◌<◌, ◌≤◌, ◌+◌, ◌-◌, ◌^◌, min, IsTrue, [], length};
-    ghost use Rattle.site_model.specs.Counts.{CountsRead, CountsWrite, CountsSay};
-    ghost use Rattle.site_mem.specs.Events.{event_now};
-    ghost use Rattle.site_mem.specs.Counting.{counts_of, next_call, AreNone, CountsEvent, IsCall, IsWithin};
+    ghost use Rattle.std.specs.Prelude.{◌≡◌, ◌<◌, false, IsTrue};
+    ghost use Rattle.site_model.specs.Counts.{CountsRead, CountsWrite, CountsSay, max_servers};
+    ghost use Rattle.site_model.specs.Tallies.{AreNone, counts_of, next_call};
 
+    /// Nothing was counted yet.
     pub fn new() -> Self
         ensures { AreNone (counts_of result) }
     {
         Tally {
-            faults: [0; 64],
-            write_faults: [0; 64],
+            faults: [0; PLACES],
+            write_faults: [0; PLACES],
             say_faults: 0,
             calls: 0,
             widest: 0,
@@ -46,9 +47,10 @@ impl Tally {
 
     /// One call more that doesn't write.
     pub fn count_read(&mut self, server: u32, width: usize, failed: bool)
-        requires { server < 64 }
+        requires { server < max_servers }
         ensures counts { CountsRead server width (counts_of self.old) (counts_of self.new) (IsTrue failed) }
         ensures calls { self.new.calls ≡ next_call self.old }
+        ensures stays { failed ≡ false → self.new.faults ≡ self.old.faults }
     {
         self.calls = self.calls.saturating_add(1);
         self.widest = self.widest.max(width as u64);
@@ -58,11 +60,12 @@ impl Tally {
         }
     }
 
-    // One call more that writes.
-    fn count_write(&mut self, server: u32, width: usize, failed: bool)
-        requires { server < 64 }
+    /// One call more that writes.
+    pub fn count_write(&mut self, server: u32, width: usize, failed: bool)
+        requires { server < max_servers }
         ensures counts { CountsWrite server width (counts_of self.old) (counts_of self.new) (IsTrue failed) }
         ensures calls { self.new.calls ≡ next_call self.old }
+        ensures stays { failed ≡ false → self.new.faults ≡ self.old.faults }
     {
         self.calls = self.calls.saturating_add(1);
         self.widest = self.widest.max(width as u64);
@@ -73,34 +76,15 @@ impl Tally {
         }
     }
 
-    // Something was said.
-    fn count_say(&mut self, failed: bool)
+    /// Something was said.
+    pub fn count_say(&mut self, failed: bool)
         ensures counts { CountsSay (counts_of self.old) (counts_of self.new) (IsTrue failed) }
         ensures calls { self.new.calls ≡ next_call self.old }
+        ensures stays { self.new.faults ≡ self.old.faults }
     {
         self.calls = self.calls.saturating_add(1);
         if failed {
             self.say_faults = self.say_faults.saturating_add(1);
-        }
-    }
-
-    /// One call more that can change something.
-    pub fn count(&mut self, request: &Request<'_>, failed: bool)
-        requires call { IsCall (event_now request.now) }
-        requires within { IsWithin 64 (event_now request.now) }
-        ensures counts { CountsEvent (event_now request.now) (counts_of self.old) (counts_of self.new)
-            (IsTrue failed) }
-        ensures calls { self.new.calls ≡ next_call self.old }
-    {
-        match request {
-            Asked::Append { server, bytes, .. } => self.count_write(*server, bytes.len(), failed),
-            Asked::Sync { server, .. } => self.count_write(*server, 0, failed),
-            Asked::Cut { server, .. } => self.count_write(*server, 0, failed),
-            Asked::Rename { server, .. } => self.count_write(*server, 0, failed),
-            Asked::Remove { server, .. } => self.count_write(*server, 0, failed),
-            Asked::Say { .. } => self.count_say(failed),
-            Asked::Add { .. } => unreachable!(),
-            Asked::Tell { .. } => unreachable!(),
         }
     }
 }

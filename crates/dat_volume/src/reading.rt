@@ -1,4 +1,4 @@
-// A record at the place that an index entry names.
+//! A record at the place that an index entry names.
 ghost use Rattle.std.specs.Prelude.{◌≡◌, ◌+◌, ◌*◌, ◌<◌, ◌≤◌, ◌^◌, IsTrue, IfOk, IfErr, IsErrOf, OnOk, MatchResult, None, Some, Err, length, take, drop};
 ghost use Rattle.wire_num.specs.Numbers.{record_length};
 ghost use Rattle.site_model.specs.Disk.{bytes_of, length_of};
@@ -9,19 +9,14 @@ ghost use Rattle.dat_volume.specs.Needles.{bytes_from, header_damage, reading_da
 ghost use Rattle.dat_volume.specs.Reading.{front_damage, Tells, TellsEnd, IsWholeFault};
 
 use crate::GetFault;
-use needle_record::{NeedleFault, Record, read_header, read_record};
+use needle_record::{HEADER_LENGTH, NeedleFault, Record, read_header, take_record};
 use site_model::{DeviceFault, Site};
 use std::alloc::Global;
 use volume_forms::Entry;
 use whole_file::{FileFault, read_range};
 use wire_num::record_length;
+use world_model::limits::MAX_DATA;
 use world_model::types::What;
-
-/// The bytes of a record's header.
-pub(crate) const HEADER: usize = 16;
-
-/// The most bytes of a needle's data.
-const MAX_DATA: u64 = 1 << 21;
 
 /// Where a record stands, by its entry.
 #[derive(Clone, Copy)]
@@ -70,7 +65,7 @@ pub(crate) fn record_at<T: Site>(
 {
     let place = place_of(entry);
     let bytes = front_at(alloc, site, server, name, entry, place.length as usize)?;
-    match read_record(alloc, &bytes) {
+    match take_record(alloc, bytes) {
         Ok((record, _)) => Ok(record),
         Err(fault) => Err(damage(fault)),
     }
@@ -95,7 +90,7 @@ pub(crate) fn cookie_at<T: Site>(
         (IsErrOf result (GetFault.Fault (record { server = server }))) }
     ensures blame { IfErr result (ReadBlamesServer server) }
 {
-    let bytes = front_at(alloc, site, server, name, entry, HEADER)?;
+    let bytes = front_at(alloc, site, server, name, entry, HEADER_LENGTH)?;
     Ok(read_header(&bytes).cookie)
 }
 
@@ -221,7 +216,11 @@ fn damage(fault: NeedleFault) -> GetFault
             damaged(What::Checksum, u64::from(stored), u64::from(computed))
         }
         NeedleFault::EmptyBody { size } => damaged(What::Empty, u64::from(size), 0),
-        NeedleFault::TooLarge { length } => damaged(What::Large, u64::from(length), MAX_DATA),
+        NeedleFault::TooLarge { length } => damaged(
+            What::Large,
+            u64::from(length),
+            MAX_DATA as u64,
+        ),
         NeedleFault::Short => unreachable!(),
         NeedleFault::Memory => GetFault::Memory,
     }

@@ -1,14 +1,13 @@
 //! The fields of a body. Each reader gives the field's value and the bytes after it.
 
-ghost use Rattle.std.specs.Prelude.{◌≡◌, ◌<◌, ◌≤◌, ◌^◌, length, IfOk};
+ghost use Rattle.std.specs.Prelude.{◌≡◌, ◌<◌, ◌≤◌, ◌^◌, length, take, drop, IfOk};
 ghost use Rattle.needle_record.specs.Reading.{bytes_at, number_at, text_at, part_at, content_at};
-ghost use Rattle.needle_record.specs.Given.{GivesField};
+ghost use Rattle.needle_record.specs.Given.{GivesField, content_of};
 
 use crate::flags::{self, has};
 use std::alloc::{AllocError, Global};
 use wire_num::{get_u16, get_u32, get_u40};
 use world_model::bytes::Bytes;
-use world_model::types::Content;
 
 /// Why a field is not read.
 #[derive(Clone, Copy)]
@@ -17,6 +16,17 @@ pub enum Stop {
     Past(u32),
     /// Memory ran out.
     Memory,
+}
+
+/// All of a content but its data.
+#[derive(Drop)]
+pub struct Parts {
+    pub flags: u8,
+    pub name: Option<Bytes>,
+    pub mime: Option<Bytes>,
+    pub modified: Option<u64>,
+    pub ttl: Option<u16>,
+    pub pairs: Option<Bytes>,
 }
 
 impl From<AllocError> for Stop {
@@ -76,15 +86,17 @@ fn text_of(alloc: Global, count: u32, rest: &[u8]) -> Result<(Bytes, &[u8]), Sto
     Ok((Bytes::new(Vec::from_slice(alloc, text)?), rest))
 }
 
+// The data, where it stands.
 #[tactic(auto, unfolding(crate::specs::Reading::text_at))]
-fn data_at(alloc: Global, rest: &[u8]) -> Result<(Bytes, &[u8]), Stop>
-    ensures { GivesField (λ x. (x.0, x.1.now)) result (text_at 4 rest.now) }
+fn data_at(rest: &[u8]) -> Result<(&[u8], &[u8]), Stop>
+    ensures given { GivesField (λ x. (x.0.now, x.1.now)) result (text_at 4 rest.now) }
+    ensures place { IfOk result (λ x. x.0.now ≡ take (length x.0.now) (drop 4 rest.now)) }
 {
     let (length, rest) = u32_at(rest)?;
-    text_of(alloc, length, rest)
+    take(rest, length)
 }
 
-/// A name or a mime type.
+// A name or a mime type.
 #[tactic(auto, unfolding(crate::specs::Reading::text_at))]
 fn text_part(alloc: Global, stands: bool, rest: &[u8]) -> Result<(Option<Bytes>, &[u8]), Stop>
     ensures { GivesField (λ x. (x.0, x.1.now)) result (part_at stands (text_at 1) rest.now) }
@@ -129,20 +141,20 @@ fn pairs_part(alloc: Global, stands: bool, rest: &[u8]) -> Result<(Option<Bytes>
     Ok((Some(text), rest))
 }
 
-/// The content that the bytes begin with.
+/// The content that the bytes begin with: its data, where it stands, and its parts.
 #[tactic(auto, unfolding(crate::specs::Reading::content_at))]
-pub fn content_at(alloc: Global, rest: &[u8]) -> Result<(Content, &[u8]), Stop>
-    ensures { GivesField (λ x. (x.0, x.1.now)) result (content_at rest.now) }
+pub fn content_at(alloc: Global, rest: &[u8]) -> Result<(&[u8], Parts, &[u8]), Stop>
+    ensures given { GivesField (λ x. (content_of x.0.now x.1, x.2.now)) result (content_at rest.now) }
+    ensures place { IfOk result (λ x. x.0.now ≡ take (length x.0.now) (drop 4 rest.now)) }
 {
-    let (bytes, rest) = data_at(alloc, rest)?;
+    let (bytes, rest) = data_at(rest)?;
     let (flags, rest) = u8_at(rest)?;
     let (name, rest) = text_part(alloc, has(flags, flags::NAME), rest)?;
     let (mime, rest) = text_part(alloc, has(flags, flags::MIME), rest)?;
     let (modified, rest) = modified_part(has(flags, flags::MODIFIED), rest)?;
     let (ttl, rest) = ttl_part(has(flags, flags::TTL), rest)?;
     let (pairs, rest) = pairs_part(alloc, has(flags, flags::PAIRS), rest)?;
-    let content = Content {
-        bytes,
+    let parts = Parts {
         flags: flags & flags::KEPT,
         name,
         mime,
@@ -150,5 +162,5 @@ pub fn content_at(alloc: Global, rest: &[u8]) -> Result<(Content, &[u8]), Stop>
         ttl,
         pairs,
     };
-    Ok((content, rest))
+    Ok((bytes, parts, rest))
 }

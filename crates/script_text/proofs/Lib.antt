@@ -5,3 +5,4 @@ pub mod RatioLaws
 pub mod HexLaws
 pub mod OptionLaws
 pub mod ReturnLaws
+pub mod Searches

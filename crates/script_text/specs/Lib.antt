@@ -4,3 +4,4 @@ pub mod Numerals
 pub mod Reading
 pub mod Texts
 pub mod Laws
+pub mod Appending

@@ -55,15 +55,18 @@ part_text key value part = option_map_or (λ x. codes " " ++ key ++ value x) par
 abbrev pub flags_text : ℕ → List ℕ
 flags_text flags = if flags == 0 then [] else codes " flags=" ++ encode_lower (flags ∷ [])
 
-abbrev pub content_text : Content → List ℕ
-content_text c =
-    encode_lower c.bytes
-    ++ flags_text c.flags
+-- the parts of a needle but its data
+abbrev pub parts_text : Content → List ℕ
+parts_text c =
+    flags_text c.flags
     ++ part_text (codes "name=") encode_lower c.name
     ++ part_text (codes "mime=") encode_lower c.mime
     ++ part_text (codes "modified=") decimal c.modified
     ++ part_text (codes "ttl=") (λ n. encode_lower (bytes_of 2 n)) c.ttl
     ++ part_text (codes "pairs=") encode_lower c.pairs
+
+abbrev pub content_text : Content → List ℕ
+content_text c = encode_lower c.bytes ++ parts_text c
 
 abbrev pub row_text : ℕ × Mode × ℕ → List ℕ
 row_text row = codes " " ++ decimal row.0 ++ codes " " ++ mode_text row.1 ++ codes " " ++ decimal row.2
@@ -79,6 +82,11 @@ reply_text (reply.Ended job) = codes "OK job " ++ decimal job ++ codes " done"
 reply_text reply.Long = codes "ERR 18 long"
 reply_text reply.Syntax = codes "ERR 1 syntax"
 reply_text (reply.Refused why) = codes "ERR " ++ refusal_text why
+
+-- the same behind the data of a needle, with which the text of what was found begins
+abbrev pub text_behind_data : Reply → List ℕ
+text_behind_data (reply.Found c) = parts_text c
+text_behind_data r = reply_text r
 
 -- what is written for a reply
 unfoldable pub text_of : Reply → List ℕ

@@ -11,7 +11,7 @@ mod words;
 pub use lines::parse_line;
 pub use texts::print_reply;
 pub use values::{number, u32_word, u64_word};
-pub use words::{is_blank, without_return};
+pub use words::{is_blank, length_before, without_return};
 
 /// Why a line isn't read.
 #[derive(Clone, Copy, Debug, PartialEq, Eq)]

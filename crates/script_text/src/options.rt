@@ -37,7 +37,7 @@ pub(crate) fn ratio_option(word: &[u8]) -> Option<Ratio>
     ratio_word(word.strip_prefix(b"-ratio=")?)
 }
 
-/// The ratio that a word is.
+// The ratio that a word is.
 fn ratio_word(word: &[u8]) -> Option<Ratio>
     ensures { result ≡ ratio_in word.now }
 {

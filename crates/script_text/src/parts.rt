@@ -39,7 +39,7 @@ pub(crate) fn content(
     })
 }
 
-/// Bytes behind their key.
+// Bytes behind their key.
 fn hex_part(alloc: Global, key: &[u8], words: &mut Words<'_>) -> Result<Option<Bytes>, LineFault>
     ensures { ReadsPart (part_in key.now hex_in words.old) result words.new }
 {

@@ -1,14 +1,18 @@
 //! What is written for a reply.
-ghost use Rattle.std.specs.Prelude.{◌≡◌, ◌++◌, codes, decimal, flat_map, OnOk, OnErr};
+ghost use Rattle.std.specs.Prelude.{◌≡◌, ◌+◌, ◌*◌, ◌≤◌, ◌++◌, codes, decimal, flat_map, length, OnOk, OnErr, vec_len, vec_capacity};
 ghost use Rattle.std.specs.String.{string_bytes};
 ghost use Rattle.hex.specs.Hex.{encode_lower};
 ghost use Rattle.wire_num.specs.Numbers.{bytes_of};
-ghost use Rattle.script_text.specs.Texts.{content_text, flags_text, mode_text, part_text, refusal_text, reply_text, row_text, text_of, what_text};
+ghost use Rattle.script_text.specs.Appending.{Appends};
+ghost use Rattle.script_text.specs.Texts.{flags_text, mode_text, part_text, parts_text, refusal_text, row_text, text_behind_data, text_of, what_text};
 
 use std::alloc::AllocError;
 use wire_num::put_u16;
 use world_model::bytes::{Bytes, Rows};
 use world_model::types::{Content, Mode, Refusal, Reply, What};
+
+// What stands in front of the data of a needle.
+const FOUND: &[u8; 3] = b"OK ";
 
 /// Appends the text of a reply with its line feed. Where memory is wanting `out` is unchanged.
 #[tactic(auto, unfolding(crate::specs::Texts::text_of))]
@@ -19,18 +23,53 @@ pub fn print_reply(reply: &Reply, out: &mut Vec<u8>) -> Result<(), AllocError>
     let mut text = String::new(*out.allocator());
     write_reply(reply, &mut text)?;
     text.push('\n')?;
-    out.extend_from_slice(text.as_bytes())
+    match reply {
+        Reply::Found(content) => push_found(content.bytes.as_slice(), text.as_bytes(), out),
+        _ => out.extend_from_slice(text.as_bytes()),
+    }
 }
 
+// Appends the digits of the data, and this text behind them. All memory is taken first.
+fn push_found(data: &[u8], behind: &[u8], out: &mut Vec<u8>) -> Result<(), AllocError>
+    ensures ok { OnOk result (out.new.items
+        ≡ out.old.items ++ (codes "OK " ++ (encode_lower «data».now ++ behind.now))) }
+    ensures err { OnErr result (out.new.items ≡ out.old.items) }
+{
+    let Some(room) = (2 * data.len()).checked_add(FOUND.len() + behind.len()) else {
+        return Err(AllocError);
+    };
+    out.reserve(room)?;
+    push_bytes(FOUND, out);
+    push_digits(data, out);
+    push_bytes(behind, out);
+    Ok(())
+}
+
+// Appends bytes that have room.
+fn push_bytes(bytes: &[u8], out: &mut Vec<u8>)
+    requires { vec_len out.old + length bytes.now ≤ vec_capacity out.old }
+    ensures { Appends out.old out.new (length bytes.now) bytes.now }
+{
+    let _ = out.extend_from_slice(bytes);
+}
+
+// Appends digits that have room.
+fn push_digits(bytes: &[u8], out: &mut Vec<u8>)
+    requires { vec_len out.old + 2 * length bytes.now ≤ vec_capacity out.old }
+    ensures { Appends out.old out.new (2 * length bytes.now) (encode_lower bytes.now) }
+{
+    let start = out.len();
+    let _ = out.resize(start + 2 * bytes.len(), 0);
+    let _ = hex::encode_to_slice(bytes, &mut out[start..]);
+}
+
+// All of a reply but the data of a needle, with which its text begins.
 fn write_reply(reply: &Reply, text: &mut String) -> Result<(), AllocError>
-    ensures { OnOk result (string_bytes text.new ≡ string_bytes text.old ++ reply_text reply.now) }
+    ensures { OnOk result (string_bytes text.new ≡ string_bytes text.old ++ text_behind_data reply.now) }
 {
     match reply {
         Reply::Done => text.push_str("OK"),
-        Reply::Found(content) => {
-            text.push_str("OK ")?;
-            write_content(content, text)
-        }
+        Reply::Found(content) => write_parts(content, text),
         Reply::Listed(rows) => {
             text.push_str("OK")?;
             write_rows(rows, text)
@@ -47,7 +86,7 @@ fn write_reply(reply: &Reply, text: &mut String) -> Result<(), AllocError>
     }
 }
 
-/// The number and the word of a refusal, and its values.
+// The number and the word of a refusal, and its values.
 fn write_refusal(why: &Refusal, text: &mut String) -> Result<(), AllocError>
     ensures { OnOk result (string_bytes text.new ≡ string_bytes text.old ++ refusal_text why.now) }
 {
@@ -99,7 +138,7 @@ fn mode_word(mode: Mode) -> &'static str
     }
 }
 
-/// A volume, its mode and the bytes that it uses, for each row.
+// A volume, its mode and the bytes that it uses, for each row.
 fn write_rows(rows: &Rows, text: &mut String) -> Result<(), AllocError>
     ensures { OnOk result (string_bytes text.new ≡ string_bytes text.old ++ flat_map row_text rows.now) }
 {
@@ -110,11 +149,10 @@ fn write_rows(rows: &Rows, text: &mut String) -> Result<(), AllocError>
     Ok(())
 }
 
-/// The data in hexadecimal digits, and the parts that stand.
-fn write_content(content: &Content, text: &mut String) -> Result<(), AllocError>
-    ensures { OnOk result (string_bytes text.new ≡ string_bytes text.old ++ content_text content.now) }
+// The parts of a needle that stand, but the data.
+fn write_parts(content: &Content, text: &mut String) -> Result<(), AllocError>
+    ensures { OnOk result (string_bytes text.new ≡ string_bytes text.old ++ parts_text content.now) }
 {
-    write_hex(content.bytes.as_slice(), text)?;
     write_flags(content.flags, text)?;
     write_bytes("name=", &content.name, text)?;
     write_bytes("mime=", &content.mime, text)?;
@@ -123,7 +161,7 @@ fn write_content(content: &Content, text: &mut String) -> Result<(), AllocError>
     write_bytes("pairs=", &content.pairs, text)
 }
 
-/// The flags, where any stands.
+// The flags, where any stands.
 fn write_flags(flags: u8, text: &mut String) -> Result<(), AllocError>
     ensures { OnOk result (string_bytes text.new ≡ string_bytes text.old ++ flags_text flags) }
 {
@@ -134,7 +172,7 @@ fn write_flags(flags: u8, text: &mut String) -> Result<(), AllocError>
     write_hex(&[flags], text)
 }
 
-/// The bytes behind their key, where they stand.
+// The bytes behind their key, where they stand.
 fn write_bytes(key: &str, part: &Option<Bytes>, text: &mut String) -> Result<(), AllocError>
     ensures { OnOk result (string_bytes text.new
         ≡ string_bytes text.old ++ part_text key.now encode_lower part.now) }
@@ -147,7 +185,7 @@ fn write_bytes(key: &str, part: &Option<Bytes>, text: &mut String) -> Result<(),
     write_hex(bytes.as_slice(), text)
 }
 
-/// The time of the last change in seconds, where it stands.
+// The time of the last change in seconds, where it stands.
 fn write_modified(part: Option<u64>, text: &mut String) -> Result<(), AllocError>
     ensures { OnOk result (string_bytes text.new
         ≡ string_bytes text.old ++ part_text (codes "modified=") decimal part) }
@@ -158,7 +196,7 @@ fn write_modified(part: Option<u64>, text: &mut String) -> Result<(), AllocError
     write!(text, " modified={modified}")
 }
 
-/// The time to live as it stands in a record, where it stands.
+// The time to live as it stands in a record, where it stands.
 fn write_ttl(part: Option<u16>, text: &mut String) -> Result<(), AllocError>
     ensures { OnOk result (string_bytes text.new
         ≡ string_bytes text.old ++ part_text (codes "ttl=") (λ n. encode_lower (bytes_of 2 n)) part) }
@@ -172,7 +210,7 @@ fn write_ttl(part: Option<u16>, text: &mut String) -> Result<(), AllocError>
     write_hex(&bytes, text)
 }
 
-/// The bytes in lower-case hexadecimal digits.
+// The bytes in lower-case hexadecimal digits.
 fn write_hex(bytes: &[u8], text: &mut String) -> Result<(), AllocError>
     ensures { OnOk result (string_bytes text.new ≡ string_bytes text.old ++ encode_lower bytes.now) }
 {

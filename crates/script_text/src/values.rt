@@ -11,7 +11,7 @@ use std::alloc::Global;
 use wire_num::{get_u16, get_u32};
 use world_model::bytes::Bytes;
 
-/// The flags that a record keeps, beside those of its parts, are the bits of 0xc1.
+// The flags that a record keeps, beside those of its parts, are the bits of 0xc1.
 const UNKEPT_FLAGS: u8 = 0x3e;
 
 /// A number in decimal digits, without sign and leading zeros, of at most `most`.
@@ -25,7 +25,7 @@ pub fn number(word: &[u8], most: u64) -> Option<u64>
     if number <= most { Some(number) } else { None }
 }
 
-/// No sign stands in front, and no zero before other bytes.
+// No sign stands in front, and no zero before other bytes.
 fn is_plain(word: &[u8]) -> bool
     ensures { result ≡ is_plain word.now }
 {
@@ -35,7 +35,7 @@ fn is_plain(word: &[u8]) -> bool
     }
 }
 
-/// The number that decimal digits write, if it has room.
+// The number that decimal digits write, if it has room.
 fn digits(word: &[u8]) -> Option<u64>
     requires { slice_index word.now 0 ≢ 43 }
     ensures { SomeIff result (IsNumber word.now) (digits_value 10 word.now) }
@@ -90,7 +90,7 @@ pub(crate) fn data_word(alloc: Global, word: &[u8]) -> Result<Bytes, LineFault>
     }
 }
 
-/// The bytes of twice so many hexadecimal digits.
+// The bytes of twice so many hexadecimal digits.
 fn hex_array<const N: usize>(word: &[u8]) -> Option<[u8; N]>
     ensures { result ≡ hex_of_length N word.now }
 {

@@ -1,10 +1,11 @@
 //! The words of a line.
 ghost use Rattle.std.specs.Prelude.{◌≡◌, ◌≤◌, ◌==◌, not, length};
-ghost use Rattle.std.specs.List.{prefix_len};
+ghost use Rattle.std.specs.List.{position_or_len, prefix_len};
 ghost use Rattle.std.specs.Iterator.{YieldsFirstRef, item_count};
 ghost use Rattle.script_text.specs.Grammar.{is_word};
 ghost use Rattle.script_text.specs.Lines.{is_blank, without_return, words};
 
+use memchr::memchr;
 use std::marker::Model;
 
 const SPACE: u8 = b' ';
@@ -92,7 +93,7 @@ impl<'a> Iterator for Words<'a> {
     }
 }
 
-/// How many spaces stand in front.
+// How many spaces stand in front.
 fn spaces_before(text: &[u8]) -> usize
     ensures count { result ≡ prefix_len (λ b. b == 32) text.now }
     ensures within { result ≤ length text.now }
@@ -100,10 +101,21 @@ fn spaces_before(text: &[u8]) -> usize
     text.iter().take_while(|byte| **byte == SPACE).count()
 }
 
-/// How many bytes stand before the first space.
+// How many bytes stand before the first space.
 fn word_length(text: &[u8]) -> usize
     ensures count { result ≡ prefix_len (λ b. not (b == 32)) text.now }
     ensures within { result ≤ length text.now }
 {
-    text.iter().take_while(|byte| **byte != SPACE).count()
+    length_before(SPACE, text)
+}
+
+/// How many bytes stand before the first one that is this, or all where none is.
+pub fn length_before(byte: u8, text: &[u8]) -> usize
+    ensures count { result ≡ position_or_len (λ b. b == byte) text.now }
+    ensures within { result ≤ length text.now }
+{
+    match memchr(byte, text) {
+        Some(at) => at,
+        None => text.len(),
+    }
 }

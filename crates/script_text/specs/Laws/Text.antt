@@ -16,7 +16,7 @@ use Rattle.world_model.specs.declared.types.Refusal.{Refusal}
 use Rattle.world_model.specs.declared.types.Refusal.TheVariants as refusal
 use Rattle.world_model.specs.declared.types.Reply.{Reply}
 use Rattle.world_model.specs.declared.types.Reply.TheVariants as reply
-use Rattle.script_text.specs.Texts.{mode_text, what_text, refusal_text, part_text, flags_text, content_text, row_text, reply_text, text_of}
+use Rattle.script_text.specs.Texts.{mode_text, what_text, refusal_text, part_text, flags_text, parts_text, content_text, row_text, reply_text, text_of}
 
 abbrev pub line_feeds : List ℕ → ℕ
 line_feeds bytes = count_by (λ b. b == 10) bytes
@@ -135,13 +135,16 @@ part_within key value (Some x) h v = space then h then v x
 flags_within : (flags : ℕ) → Within (flags_text flags)
 flags_within flags = cond_both (flags == 0) [] (codes " flags=" ++ encode_lower (flags ∷ [])) Within (λ _. text [] refl) (λ _. text (codes " flags=") refl then hex_within (flags ∷ []))
 
-content_within : (c : Content) → Within (content_text c)
-content_within c =
-    hex_within c.bytes then flags_within c.flags then part_within (codes "name=") encode_lower c.name (text (codes "name=") refl) hex_within
+parts_within : (c : Content) → Within (parts_text c)
+parts_within c =
+    flags_within c.flags then part_within (codes "name=") encode_lower c.name (text (codes "name=") refl) hex_within
     then part_within (codes "mime=") encode_lower c.mime (text (codes "mime=") refl) hex_within
     then part_within (codes "modified=") decimal c.modified (text (codes "modified=") refl) decimal_within
     then part_within (codes "ttl=") (λ n. encode_lower (bytes_of 2 n)) c.ttl (text (codes "ttl=") refl) (λ n. hex_within (bytes_of 2 n))
     then part_within (codes "pairs=") encode_lower c.pairs (text (codes "pairs=") refl) hex_within
+
+content_within : (c : Content) → Within (content_text c)
+content_within c = hex_within c.bytes then parts_within c
 
 row_within : (row : ℕ × Mode × ℕ) → Within (row_text row)
 row_within row = space then decimal_within row.0 then space then mode_within row.1 then space then decimal_within row.2

@@ -18,27 +18,26 @@ returns-in-Ok-clause-answer g c = λ told.
     let read = c.in_ok-bytes.ensures.answer told in (
       read.1,
       own_bytes dat c.in_ok-bytes.bytes.items c.args.entry front.1 (front.0 ∙ place.ensures.length) (read.0 ∙ ap (λ (n : ℕ). take n (bytes_from dat c.args.entry)) place.ensures.length)
-          ∙ ap needle_at (sym c.deref.ensures.value) ∙ own_length c.deref.result.now c.in-Ok.record c.in-Ok.field-0-1 c.in-Ok.ensures.exact,
+          ∙ own_length c.in_ok-bytes.bytes.items c.in-Ok.record c.in-Ok.field-0-1 c.in-Ok.ensures.exact,
     )
 
 pub damage-requires : goal.damage-requires
 damage-requires g c =
     let front = c.in_ok-bytes.ensures.front in
-    given_fault c.deref.result.now c.in-Err.fault
-    (head_whole c.deref.result.now c.args.entry (ap (λ (l : List ℕ). front_damage l c.args.entry) c.deref.ensures.value ∙ front.1) (ap (λ (l : List ℕ). length l) c.deref.ensures.value ∙ front.0 ∙ c.place_of-place.ensures.length))
+    given_fault c.in_ok-bytes.bytes.items c.in-Err.fault
+    (head_whole c.in_ok-bytes.bytes.items c.args.entry front.1 (front.0 ∙ c.place_of-place.ensures.length))
     c.in-Err.ensures.exact
 
-pub returns-clause-answer : goal.returns-clause-answer
-returns-clause-answer g c =
+pub returns-in-Err-clause-answer : goal.returns-in-Err-clause-answer
+returns-in-Err-clause-answer g c =
     let dat = bytes_of ((g.T.Site.disk c.args.site.now).files (c.args.server, c.args.name.now)) in
     let place = c.place_of-place in
     let front = c.in_ok-bytes.ensures.front in (
       c.damage.ensures.differ,
       λ told.
           let read = c.in_ok-bytes.ensures.answer told in
-          let same : needle_at (bytes_from dat c.args.entry) ≡ needle_at c.deref.result.now =
-          own_bytes dat c.in_ok-bytes.bytes.items c.args.entry front.1 (front.0 ∙ place.ensures.length) (read.0 ∙ ap (λ (n : ℕ). take n (bytes_from dat c.args.entry)) place.ensures.length)
-          ∙ ap needle_at (sym c.deref.ensures.value) in
+          let same : needle_at (bytes_from dat c.args.entry) ≡ needle_at c.in_ok-bytes.bytes.items =
+          own_bytes dat c.in_ok-bytes.bytes.items c.args.entry front.1 (front.0 ∙ place.ensures.length) (read.0 ∙ ap (λ (n : ℕ). take n (bytes_from dat c.args.entry)) place.ensures.length) in
           reading_told dat c.args.entry c.in-Err.fault c.damage.result read.1
           (subst (λ (r : Result (Record × ℕ) NeedleFault). Gives (Err c.in-Err.fault) r) (sym same) c.in-Err.ensures.exact)
           c.damage.ensures.told,

@@ -2,7 +2,7 @@ use Rattle.std.proofs.Common.{ℕ, ◌+◌, ◌++◌, replicate, ap, subst, ◌�
 use Rattle.std.specs.Option.{option_map_or}
 use Rattle.crc32c.specs.Checksum.{checksum}
 use Rattle.wire_num.specs.Numbers.{bytes_of, padding_of, record_length}
-use Rattle.world_model.specs.Sizes.{size_of}
+use Rattle.world_model.specs.Sizes.{size_of_content}
 use Rattle.needle_record.specs.Spelling.{header, body_of, data_of, canonical}
 use Rattle.needle_record.specs.Appending.{Appends}
 use Rattle.needle_record.proofs.Joined.{Appends-then, Appends-count}
@@ -25,7 +25,7 @@ returns c =
     stored)
     c.push_u64-2.ensures)
     padded in
-    Appends-count c.args.out.now c.push_zeros.new.out (4 + 8 + 4 + option_map_or size_of c.args.needle.now.content 0 + 4 + 8 + padding_of c.args.size) (record_length c.args.size) _
-    (subst (λ (n : ℕ). Appends c.args.out.now c.push_zeros.new.out (4 + 8 + 4 + option_map_or size_of c.args.needle.now.content 0 + 4 + 8 + padding_of c.args.size)
+    Appends-count c.args.out.now c.push_zeros.new.out (4 + 8 + 4 + option_map_or size_of_content c.args.needle.now.content 0 + 4 + 8 + padding_of c.args.size) (record_length c.args.size) _
+    (subst (λ (n : ℕ). Appends c.args.out.now c.push_zeros.new.out (4 + 8 + 4 + option_map_or size_of_content c.args.needle.now.content 0 + 4 + 8 + padding_of c.args.size)
     (header c.args.needle.now n ++ body_of c.args.needle.now.content ++ bytes_of 4 (checksum (data_of c.args.needle.now.content)) ++ bytes_of 8 c.args.needle.now.appended ++ replicate (padding_of n) 0)) c.requires.size whole)
     (omega arith)

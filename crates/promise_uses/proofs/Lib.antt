@@ -6,3 +6,4 @@ mod Decided
 mod Ends
 mod Seen
 mod Starting
+mod Stamping

@@ -30,10 +30,6 @@ none_lost_survives image v below = record {
   shards = λ coded. (coded_form (files_of image v) coded).enough;
 }
 
--- what an image means is one of the things that it may have
-pub has_itself : (image : Image) (v : ℕ) → MayHave image v (volume_in image v)
-has_itself image v = record { lost = none_lost; survivable = none_lost_survives image; means = refl }
-
 -- ---- lost volumes
 
 plain_mode : (files : VolumeFiles) → is_lost (plain_volume files).mode ≡ false

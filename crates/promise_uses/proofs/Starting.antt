@@ -76,11 +76,11 @@ on_some (Some x) f is = f x is
 -- ---- what was said tells the replies
 
 -- the text of all replies begins with these bytes and goes on
-begins : (start : Start) (replies : List Reply) (said more : List ℕ) → SaidByThen start replies said → said_since start said ≡ two_answers ++ more
+begins : (start : Start) (replies : List Reply) (said more : List ℕ) → (n : ℕ) × (said ≡ start.disk.said ++ take n (text_with replies)) → said_since start said ≡ two_answers ++ more
     → (rest : List ℕ) × (text_with replies ≡ two_answers ++ rest)
-begins start replies said more saw is =
-    let n = saw.front.0 in
-    let since : said_since start said ≡ take n (text_with replies) = ap (λ (l : List ℕ). drop (length start.disk.said) l) saw.front.1 ∙ drop_front start.disk.said (take n (text_with replies)) in
+begins start replies said more front is =
+    let n = front.0 in
+    let since : said_since start said ≡ take n (text_with replies) = ap (λ (l : List ℕ). drop (length start.disk.said) l) front.1 ∙ drop_front start.disk.said (take n (text_with replies)) in
     (more ++ drop n (text_with replies), sym (take-append-drop n (text_with replies)) ∙ ap (λ (l : List ℕ). l ++ drop n (text_with replies)) (sym since ∙ is))
   where
     drop_front : (a b : List ℕ) → drop (length a) (a ++ b) ≡ b
@@ -108,7 +108,7 @@ is_done r texts rest (inr (why, e)) is = absurd (refused_other (ap (λ (x : Repl
     refused_other same = cc
 
 -- both of the first two are `OK`
-record AreDone (replies : List Reply) : Type 0 where
+pub record AreDone (replies : List Reply) : Type 0 where
   pub others : List Reply
   pub are : replies ≡ reply.Done ∷ reply.Done ∷ others
 
@@ -146,7 +146,7 @@ later_worlds w c (r ∷ others) (suc n) = no_lines (next_world (after_two w c) g
     no_lines x [] = refl
     no_lines x (s ∷ rs) = refl
 
-next_is_get : (c : Content) (n : ℕ) (l : Reading) → slice_get (three_lines c) (suc (suc n)) ≡ Some l → l ≡ get_line
+pub next_is_get : (c : Content) (n : ℕ) (l : Reading) → slice_get (three_lines c) (suc (suc n)) ≡ Some l → l ≡ get_line
 next_is_get c zero l is = cc
 next_is_get c (suc n) l is = absurd (cc is)
 
@@ -196,26 +196,37 @@ feeds_two more =
     let parts : line_feeds (79 ∷ 75 ∷ 10 ∷ 79 ∷ 75 ∷ 10 ∷ more) ≡ 2 + line_feeds more = sum_by-append (λ b. cond (b == 10) 1 0) (79 ∷ 75 ∷ 10 ∷ 79 ∷ 75 ∷ 10 ∷ []) more in
     (line_feeds more, omega (arith, parts))
 
+-- the run was ready, two lines were answered or more, and the first two of their replies are `OK`
+module _ (start : Start) (said more : List ℕ) (saw : said_since start said ≡ two_answers ++ more) where
+  pub two_ready : was_ready start said ≡ true
+  two_ready = ap ready_in saw
+    where
+      ready_in : List ℕ → Bool
+      ready_in bytes = starts_with nat_eq bytes ready_text
+
+  pub two_answered : (n : ℕ) × (stops.answered start said ≡ suc (suc n))
+  two_answered = let feeds = feeds_two more in (feeds.0, ap feeds_in saw ∙ feeds.1)
+    where
+      feeds_in : List ℕ → ℕ
+      feeds_in bytes = line_feeds (drop (length ready_text) bytes)
+
+  pub two_done : (c : Content) (replies : List Reply) → lines_of start ≡ three_lines c → IsRun (first_world start) (lines_of start) replies → (n : ℕ) × (said ≡ start.disk.said ++ take n (text_with replies))
+      → AreDone replies
+  two_done c replies lines run front =
+      let text = begins start replies said more front saw in
+      are_done (first_world start) c replies text.0 (subst (λ (ls : List Reading). IsRun (first_world start) ls replies) lines run) (all_texts text.1)
+    where
+      all_texts : {rest : List ℕ} → text_with replies ≡ two_answers ++ rest → flat_map text_of replies ≡ 79 ∷ 75 ∷ 10 ∷ 79 ∷ 75 ∷ 10 ∷ rest
+      all_texts same = ap (λ (l : List ℕ). drop 6 l) same
+
 pub needle_stays : (run : Run) → IsAnswered run → IsSettled run.start.disk.files → ((v : ℕ) → (first_world run.start).volumes v ≡ None) → NeedleStays run
 needle_stays run is settled none c lines image said more left saw =
     let stop : LeftByStop run.start is.replies image said = (is.every_stop settled).each image said left in
-    let text = begins run.start is.replies said more stop.said_by_then saw in
-    let ready : was_ready run.start said ≡ true = ap ready_in saw in
-    let feeds = feeds_two more in
-    let count : stops.answered run.start said ≡ suc (suc feeds.0) = ap feeds_in saw ∙ feeds.1 in
-    means_one run.start c lines none is.replies image feeds.0
-    (are_done (first_world run.start) c is.replies text.0 (subst (λ (ls : List Reading). IsRun (first_world run.start) ls is.replies) lines is.the_replies.is_run) (all_texts text.1))
-    (subst (λ (k : ℕ). AfterReady run.start is.replies image k) count
-    (subst (λ (b : Bool). MatchBool b (AfterReady run.start is.replies image (stops.answered run.start said)) (BeforeReady run.start image)) ready stop.means))
-  where
-    ready_in : List ℕ → Bool
-    ready_in bytes = starts_with nat_eq bytes ready_text
-
-    feeds_in : List ℕ → ℕ
-    feeds_in bytes = line_feeds (drop (length ready_text) bytes)
-
-    all_texts : {rest : List ℕ} → text_with is.replies ≡ two_answers ++ rest → flat_map text_of is.replies ≡ 79 ∷ 75 ∷ 10 ∷ 79 ∷ 75 ∷ 10 ∷ rest
-    all_texts same = ap (λ (l : List ℕ). drop 6 l) same
+    let count = two_answered run.start said more saw in
+    means_one run.start c lines none is.replies image count.0
+    (two_done run.start said more saw c is.replies lines is.the_replies.is_run stop.said_by_then.front)
+    (subst (λ (k : ℕ). AfterReady run.start is.replies image k) count.1
+    (subst (λ (b : Bool). MatchBool b (AfterReady run.start is.replies image (stops.answered run.start said)) (BeforeReady run.start image)) (two_ready run.start said more saw) stop.means))
 
 -- ---- the next run
 

@@ -18,9 +18,9 @@ use Rattle.world_model.specs.declared.types.Refusal.TheVariants as refusal
 use Rattle.world_model.specs.declared.types.Reply.{Reply}
 use Rattle.world_model.specs.declared.types.Reply.TheVariants as reply
 use Rattle.world_model.specs.World.{Needle, Needles, Volume, World, Job, empty_volume}
-use Rattle.world_model.specs.Sizes.{length_of, is_too_large}
+use Rattle.world_model.specs.Sizes.{length_of_content, is_too_large, deletion_length, max_dat}
 use Rattle.world_model.specs.Moves.{Reading, over_long, ungrammatical, grammatical, is_accepted, is_lost, is_coded, is_sealed, busy, has_none, has_other_cookie, when, first, has_job, mode_after, with_ended, without_job, effect, next_world, LineAllowed, Allowed}
-use Rattle.promise_uses.specs.Maps.{needles_of, map_of, with_line, answered, next_map, IsFound, IsLineRead, IsRead, IsOpenTo, MayTakeEffect}
+use Rattle.promise_uses.specs.Maps.{needles_of, map_of, with_line, answered, next_map, FindsContent, IsLineRead, IsEventRead, IsOpenTo, MayTakeEffect}
 
 -- ---- lost volumes
 
@@ -108,13 +108,13 @@ line_needles : (w : World) (l : Line) (r : Reply) → LineAllowed w l r → is_a
 line_needles w (line.Create v server) r allowed ok = λ i q. made_at w v q (q == v) refl (created r _ (w.volumes v) _ allowed ok) i
 line_needles w (line.Put v id cookie content) r allowed ok =
     let on = accepted_on r (w.volumes v) _ _ allowed ok in
-    let change : Volume → Volume = λ vol. record vol { used = vol.used + length_of content; needles = insert vol.needles id (record { cookie = cookie; content = content }) } in
+    let change : Volume → Volume = λ vol. record vol { used = vol.used + length_of_content content; needles = insert vol.needles id (record { cookie = cookie; content = content }) } in
     λ i q. (changed_at (q == v) change (w.volumes v) (w.volumes q) on.0 on.1
     ∙ ap (λ o. if q == v then insert (needles_of o) id (record { cookie = cookie; content = content }) else needles_of (w.volumes q)) (sym on.1)) i
 line_needles w (line.Get v id cookie) r allowed ok = refl
 line_needles w (line.Delete v id cookie) r allowed ok =
     let on = accepted_on r (w.volumes v) _ _ allowed ok in
-    let change : Volume → Volume = λ vol. record vol { used = vol.used + 32; needles = remove vol.needles id } in
+    let change : Volume → Volume = λ vol. record vol { used = vol.used + deletion_length; needles = remove vol.needles id } in
     λ i q. (changed_at (q == v) change (w.volumes v) (w.volumes q) on.0 on.1
     ∙ ap (λ o. if q == v then remove (needles_of o) id else needles_of (w.volumes q)) (sym on.1)) i
 line_needles w (line.Mark v sealed) r allowed ok = λ i q. moded_at w v q (λ vol. if sealed then mode.Sealed else mode.Plain) (q == v) refl i
@@ -186,11 +186,11 @@ line_empty w (line.Create v server) r allowed ok kept = λ q. by_test q (q == v)
     by_test q false = kept q
 line_empty w (line.Put v id cookie content) r allowed ok kept =
     let on = accepted_on r (w.volumes v) _ _ allowed ok in
-    λ q. changed_empty (q == v) (λ vol. record vol { used = vol.used + length_of content; needles = insert vol.needles id (record { cookie = cookie; content = content }) }) (w.volumes v) (w.volumes q) on.0 on.1 on.2 (kept q)
+    λ q. changed_empty (q == v) (λ vol. record vol { used = vol.used + length_of_content content; needles = insert vol.needles id (record { cookie = cookie; content = content }) }) (w.volumes v) (w.volumes q) on.0 on.1 on.2 (kept q)
 line_empty w (line.Get v id cookie) r allowed ok kept = kept
 line_empty w (line.Delete v id cookie) r allowed ok kept =
     let on = accepted_on r (w.volumes v) _ _ allowed ok in
-    λ q. changed_empty (q == v) (λ vol. record vol { used = vol.used + 32; needles = remove vol.needles id }) (w.volumes v) (w.volumes q) on.0 on.1 on.2 (kept q)
+    λ q. changed_empty (q == v) (λ vol. record vol { used = vol.used + deletion_length; needles = remove vol.needles id }) (w.volumes v) (w.volumes q) on.0 on.1 on.2 (kept q)
 line_empty w (line.Mark v sealed) r allowed ok kept =
     let on = accepted_on r (w.volumes v) _ _ allowed ok in
     λ q. changed_empty (q == v) (λ vol. record vol { mode = if sealed then mode.Sealed else mode.Plain }) (w.volumes v) (w.volumes q) on.0 on.1 (unlost sealed) (kept q)
@@ -222,39 +222,39 @@ next_empty w (grammatical l) r allowed kept = by_accepted (is_accepted r) refl
 
 found_in : (vol : Volume) (id cookie : ℕ) (servers : ℕ) (r : Reply) (o : Option Needle)
     → (r ≡ option_map_or (λ n. if n.cookie == cookie then reply.Found n.content else reply.Refused refusal.NotFound) o (reply.Refused refusal.NotFound)) ⊎ ((server : ℕ) × (server < servers) × (r ≡ reply.Refused (refusal.Fault server)))
-    → IsFound (option_and_then (λ n. if n.cookie == cookie then Some n.content else None) o) r
+    → FindsContent (option_and_then (λ n. if n.cookie == cookie then Some n.content else None) o) r
 found_in vol id cookie servers r None (inl e) = (refusal.NotFound, e)
 found_in vol id cookie servers r None (inr fault) = (refusal.Fault fault.0, fault.2)
 found_in vol id cookie servers r (Some n) h = by_cookie (n.cookie == cookie) h
   where
     by_cookie : (b : Bool) → (r ≡ (if b then reply.Found n.content else reply.Refused refusal.NotFound)) ⊎ ((server : ℕ) × (server < servers) × (r ≡ reply.Refused (refusal.Fault server)))
-        → IsFound (if b then Some n.content else None) r
+        → FindsContent (if b then Some n.content else None) r
     by_cookie true (inl e) = inl e
     by_cookie true (inr fault) = inr (fault.0, fault.2)
     by_cookie false (inl e) = (refusal.NotFound, e)
     by_cookie false (inr fault) = (refusal.Fault fault.0, fault.2)
 
 none_at : (needles : Needles) (id cookie : ℕ) (r : Reply) (why : Refusal) → needles ≡ empty → r ≡ reply.Refused why
-    → IsFound (option_and_then (λ n. if n.cookie == cookie then Some n.content else None) (get needles id)) r
+    → FindsContent (option_and_then (λ n. if n.cookie == cookie then Some n.content else None) (get needles id)) r
 none_at needles id cookie r why none e =
-    subst (λ (o : Option Needle). IsFound (option_and_then (λ n. if n.cookie == cookie then Some n.content else None) o) r) (sym (ap (λ (m : Needles). get m id) none ∙ get-empty {X = Needle} nat_cmp id)) (why, e)
+    subst (λ (o : Option Needle). FindsContent (option_and_then (λ n. if n.cookie == cookie then Some n.content else None) o) r) (sym (ap (λ (m : Needles). get m id) none ∙ get-empty {X = Needle} nat_cmp id)) (why, e)
 
 get_read : (servers id cookie : ℕ) (r : Reply) (o : Option Volume) → IsEmptyIfLost o
     → MatchOption (option_map_or (λ vol. first (when (is_lost vol.mode) refusal.Lost ∷ [])) o (Some refusal.NoVolume))
     ((r ≡ option_map_or (λ n. if n.cookie == cookie then reply.Found n.content else reply.Refused refusal.NotFound) (option_and_then (λ vol. get vol.needles id) o) (reply.Refused refusal.NotFound)) ⊎ ((server : ℕ) × (server < servers) × (r ≡ reply.Refused (refusal.Fault server))))
     (λ why. r ≡ reply.Refused why)
-    → IsFound (option_and_then (λ n. if n.cookie == cookie then Some n.content else None) (get (needles_of o) id)) r
+    → FindsContent (option_and_then (λ n. if n.cookie == cookie then Some n.content else None) (get (needles_of o) id)) r
 get_read servers id cookie r None kept allowed = none_at empty id cookie r refusal.NoVolume refl allowed
 get_read servers id cookie r (Some vol) kept allowed = by_lost (is_lost vol.mode) refl allowed
   where
     by_lost : (b : Bool) → is_lost vol.mode ≡ b → MatchOption (first (when b refusal.Lost ∷ []))
         ((r ≡ option_map_or (λ n. if n.cookie == cookie then reply.Found n.content else reply.Refused refusal.NotFound) (get vol.needles id) (reply.Refused refusal.NotFound)) ⊎ ((server : ℕ) × (server < servers) × (r ≡ reply.Refused (refusal.Fault server))))
-        (λ why. r ≡ reply.Refused why) → IsFound (option_and_then (λ n. if n.cookie == cookie then Some n.content else None) (get vol.needles id)) r
+        (λ why. r ≡ reply.Refused why) → FindsContent (option_and_then (λ n. if n.cookie == cookie then Some n.content else None) (get vol.needles id)) r
     by_lost true e allowed = none_at vol.needles id cookie r refusal.Lost (kept e) allowed
     by_lost false e allowed = found_in vol id cookie servers r (get vol.needles id) allowed
 
 -- A get that is allowed reads the map.
-pub is_read : (w : World) (l : Reading) (r : Reply) → Allowed w l r → LostAreEmpty w → IsRead (map_of w) (answered l r)
+pub is_read : (w : World) (l : Reading) (r : Reply) → Allowed w l r → LostAreEmpty w → IsEventRead (map_of w) (answered l r)
 is_read w over_long r allowed kept = tt
 is_read w ungrammatical r allowed kept = tt
 is_read w (grammatical l) r allowed kept = by_line l allowed
@@ -304,7 +304,7 @@ rows_of_put w v id cookie content vol =
     ∷ when (is_sealed vol.mode) refusal.ReadOnly
     ∷ when (length content.bytes == 0) refusal.Empty
     ∷ when (is_too_large content) refusal.TooLarge
-    ∷ when (nat_lt w.limit (vol.used + length_of content)) refusal.Full
+    ∷ when (nat_lt w.limit (vol.used + length_of_content content)) refusal.Full
     ∷ when (has_other_cookie vol.needles id cookie) refusal.Cookie
     ∷ []
 
@@ -313,7 +313,7 @@ rows_of_delete w v id cookie vol =
     when (is_lost vol.mode) refusal.Lost
     ∷ busy w v
     ∷ when (is_sealed vol.mode) refusal.ReadOnly
-    ∷ when (nat_lt (2 ^ 35) (vol.used + 32)) refusal.Full
+    ∷ when (nat_lt max_dat (vol.used + deletion_length)) refusal.Full
     ∷ when (has_none vol.needles id) refusal.NotFound
     ∷ when (has_other_cookie vol.needles id cookie) refusal.Cookie
     ∷ []

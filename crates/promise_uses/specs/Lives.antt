@@ -98,12 +98,12 @@ LifetimesKeepNeedles = (first : Lived) (more : List Lived) → IsLife (first ∷
     → (events : List Event) × IsHistory (first ∷ more) events × NeedlesStay events × NeedlesStayAway events
 
 -- each volume is plain, lost or absent
-abbrev pub HasNoCoded : Image → Type 0
-HasNoCoded image = (v : ℕ) → v < max_volumes → ¬ IsCoded (files_of image v)
+abbrev pub HasNoCodedVolume : Image → Type 0
+HasNoCodedVolume image = (v : ℕ) → v < max_volumes → ¬ IsCoded (files_of image v)
 
 -- No loss changes the needles of plain volumes.
 abbrev pub PlainIsDecided : Type 0
-PlainIsDecided = (image : Image) → IsSound image → HasNoCoded image → IsDecided image
+PlainIsDecided = (image : Image) → IsSound image → HasNoCodedVolume image → IsDecided image
 
 -- all holders of a coded volume have the same list of deleted ids, as behind a whole delete
 abbrev pub HasEqualJournals : Image → Type 0

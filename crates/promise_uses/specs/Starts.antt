@@ -1,5 +1,5 @@
 -- A start that can be seen whole: a site without files, and three lines.
-use Rattle.std.specs.Prelude.{◌≡◌, ◌⊎◌, ℕ, ◌+◌, ◌==◌, ◌<◌, if◌then◌else◌, Bool, List, [], ◌∷◌, ◌++◌, length, codes, Some, None}
+use Rattle.std.specs.Prelude.{◌≡◌, ◌⊎◌, ℕ, ◌+◌, ◌==◌, ◌<◌, if◌then◌else◌, Bool, true, List, [], ◌∷◌, ◌++◌, length, codes, Some, None}
 use Rattle.std.specs.FinMap.{insert, empty}
 use Rattle.site_model.specs.Counts.{Rose}
 use Rattle.site_model.specs.Disk.{Files, Image}
@@ -12,13 +12,15 @@ use Rattle.world_model.specs.declared.types.Refusal.TheVariants as refusal
 use Rattle.world_model.specs.declared.types.Reply.{Reply}
 use Rattle.world_model.specs.declared.types.Reply.TheVariants as reply
 use Rattle.world_model.specs.World.{Volume, World}
-use Rattle.world_model.specs.Sizes.{length_of}
+use Rattle.world_model.specs.Sizes.{length_of_content}
 use Rattle.world_model.specs.Moves.{Reading, grammatical}
 use Rattle.image_meaning.specs.Sound.{IsSound}
 use Rattle.image_meaning.specs.Ends.{IsSurvivable, MayMean}
-use Rattle.weed_shell.specs.Observed.{Run, opening_image, lines_of, readings}
+use Rattle.image_meaning.specs.Times.{time_in}
+use Rattle.weed_shell.specs.Observed.{Run, opening_image, ending_image, lines_of, readings}
 use Rattle.weed_shell.specs.Answers.{TheReplies}
 use Rattle.weed_shell.specs.Headline.{Headline}
+use Rattle.weed_shell.specs.Stamps.{EndsBetween}
 use Rattle.weed_shell.specs.Stops.{said_since}
 
 -- a site without files
@@ -48,7 +50,7 @@ two_answers = codes "ready\nOK\nOK\n"
 
 -- the volume that has this needle alone
 abbrev pub with_one : Content → Volume
-with_one c = record { mode = mode.Plain; used = 8 + length_of c; needles = insert empty 1 (record { cookie = 42; content = c }) }
+with_one c = record { mode = mode.Plain; used = 8 + length_of_content c; needles = insert empty 1 (record { cookie = 42; content = c }) }
 
 -- Whatever is lost, there is this volume and no other.
 pub record MeansOne (c : Content) (image : Image) : Type 0 where
@@ -59,6 +61,13 @@ pub record MeansOne (c : Content) (image : Image) : Type 0 where
 abbrev pub NeedleStays : Run → Type 0
 NeedleStays run = (c : Content) → lines_of run.start ≡ three_lines c
     → (image : Image) (said more : List ℕ) → Left run.disk (length run.start.disk.past) image said → said_since run.start said ≡ two_answers ++ more → MeansOne c image
+
+-- The record of that needle has this time, in each such image and, where the run ended between two lines, at its end.
+pub record NeedleHasTime (time : ℕ) (run : Run) : Type 0 where
+  pub at_stops : (c : Content) → lines_of run.start ≡ three_lines c
+      → (image : Image) (said more : List ℕ) → Left run.disk (length run.start.disk.past) image said → said_since run.start said ≡ two_answers ++ more → time_in true image 7 1 ≡ Some time
+  pub at_end : (c : Content) → lines_of run.start ≡ three_lines c
+      → (more : List ℕ) → said_since run.start run.disk.said ≡ two_answers ++ more → EndsBetween run.status → time_in true (ending_image run) 7 1 ≡ Some time
 
 -- the content, or a fault of a server, which was counted
 abbrev pub IsFoundIn : Run → Content → Reply → Type 0

@@ -1,4 +1,4 @@
-// The first run, stopped within each of its calls.
+//! The first run, stopped within each of its calls.
 use crate::{run_from_nothing, stop_in};
 use site_mem::{FixedClock, MemSite, MemSource, Tear};
 use std::test::Fail;

@@ -1,4 +1,4 @@
-// The machine's clock.
+//! The machine's clock.
 use site_model::Clock;
 use std::time;
 
@@ -16,6 +16,10 @@ impl<R: time::Clock + Drop> SystemClock<R> {
 }
 
 impl<R: time::Clock + Drop> Clock for SystemClock<R> {
+    ghost use Rattle.std.specs.Prelude.{◌<◌, ◌^◌};
+
+    ghost now_gives = { λ _ t _. t < 2 ^ 64 };
+
     fn now(&mut self) -> u64 {
         match self.rt.since_1970() {
             Ok(passed) => u64::try_from(passed.as_nanos()).unwrap_or(u64::MAX),

@@ -1,4 +1,4 @@
-// A clock that stands still.
+//! A clock that stands still.
 use site_model::Clock;
 
 /// A clock that always tells the same time, in nanoseconds since 1970.
@@ -9,6 +9,8 @@ pub struct FixedClock {
 
 impl Clock for FixedClock {
     ghost use Rattle.std.specs.Prelude.{◌≡◌};
+
+    ghost now_gives = { λ old t new. (t ≡ old.now) × (new ≡ old) };
 
     fn now(&mut self) -> u64
         ensures time { result ≡ self.old.now }

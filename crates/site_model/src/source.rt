@@ -1,4 +1,4 @@
-// Where a script's bytes come from, and the time.
+//! Where a script's bytes come from, and the time.
 ghost use Rattle.std.specs.Prelude.{◌≡◌, ◌<◌, ◌≤◌, ◌+◌, ◌-◌, ◌^◌, ℕ, min, List, length, Option, IfOk, IsErr, MatchResult};
 ghost use Rattle.site_model.specs.Reading.{Reads, FaultsRise};
 
@@ -29,5 +29,9 @@ pub trait Source {
 
 /// Tells the time of appends, in nanoseconds since 1970.
 pub trait Clock {
-    fn now(&mut self) -> u64;
+    /// What a call may tell of a clock, and which clock it is then.
+    ghost now_gives: { Self → ℕ → Self → Type 0 };
+
+    fn now(&mut self) -> u64
+        ensures { now_gives self.old result self.new };
 }

@@ -11,6 +11,8 @@ use Rattle.image_meaning.specs.Files.{VolumeFiles, contents, files_of, temps_of,
 use Rattle.image_meaning.specs.Plain.{kept_at, index_home, IsExact}
 use Rattle.image_meaning.specs.Laws.Plain.{IsAlone, cut_exact, cut_super, exact_kept_records, exact_follows}
 use Rattle.image_meaning.specs.Laws.PlainLoss.{plain_home}
+use Rattle.image_meaning.specs.Times.{records_in, records_of}
+use Rattle.image_meaning.specs.Laws.Times.{plain_records, exact_records, absent_records}
 use Rattle.image_meaning.specs.Meaning.{mode_of, max_volumes}
 use Rattle.image_meaning.specs.Sound.{HasOneRatio, IsSoundVolume, IsSound}
 use Rattle.image_meaning.specs.Ends.{HasNoFiles}
@@ -25,6 +27,7 @@ use Rattle.store_core.specs.declared.slot.Slot.TheVariants as slot
 use Rattle.store_core.specs.declared.store.Store.{Store}
 use Rattle.store_core.specs.Store.{slot_of, HoldsPlain, FitsVolume, IsOpenSlot, IsOpenedStore}
 use Rattle.store_core.specs.Opening.{IsSlotOf, AreSlots}
+use Rattle.store_core.specs.Written.{HasSameRecords}
 use Rattle.store_core.proofs.OpeningFiles.{dat_standing, idx_standing}
 
 -- ---- one plain volume
@@ -106,6 +109,25 @@ module _ (tells : Bool) (told : IsTrue tells) (old new : Files) (servers : ℕ) 
       beyond : (v : ℕ) → max_volumes ≤ v → v < max_volumes → ⊥
       beyond v h k = absurd (omega (arith, h, k))
 
+-- what is cut off are no records
+left_records : (old new temps : VolumeFiles) (home : ℕ) → index_home old ≡ Some home → IsSoundVolume old → HasNoFiles temps → IsLeftPlain old new home → records_of new ≡ records_of old
+left_records old new temps home at sound none left =
+    let long = left_long old new temps home at sound none left in
+    exact_records new temps home _ _ (kept_at old home) (left_only old new temps home at sound none left) (cut_exact (dat_bytes old home) (index_bytes old home) long)
+    ∙ sym (plain_records old home at)
+
+recovered_records : (old new : Files) → IsRecovered old new → IsSound (contents old) → HasSameRecords (contents old) (contents new)
+recovered_records old new recovered sound v h = by_mode (mode_of (files_of (contents old) v)) refl
+  where
+    by_mode : (m : Option Mode) → mode_of (files_of (contents old) v) ≡ m → records_in (contents new) v ≡ records_in (contents old) v
+    by_mode None e = absent_records (files_of (contents new) v) ((recovered.1 v h).same_mode ∙ e) ∙ sym (absent_records (files_of (contents old) v) e)
+    by_mode (Some mode.Plain) e =
+        let home = plain_home (files_of (contents old) v) e in
+        left_records (files_of (contents old) v) (files_of (contents new) v) (temps_of (contents new) v) home.0 home.1 (sound v h) (recovered.1 v h).no_temps ((recovered.1 v h).plain home.0 home.1)
+    by_mode (Some mode.Sealed) e = absurd (never_sealed (files_of (contents old) v) e)
+    by_mode (Some mode.Coded) e = absurd (not_coded old v (recovered.0 v h) e)
+    by_mode (Some mode.Lost) e = ap records_of ((recovered.1 v h).lost e)
+
 open_slot : (tells : Bool) (files : Files) (plain : List (ℕ × ℕ)) (lost : List ℕ) (v : ℕ) (s : Option Slot) → IsSlotOf tells files plain lost v s → IsOpenSlot s
 open_slot tells files plain lost v None is = tt
 open_slot tells files plain lost v (Some slot.Lost) is = tt
@@ -121,6 +143,7 @@ opened_store tells told old new servers found store same finds recovered tidied 
   };
   unsealed = λ v. open_slot tells new found.plain.items found.lost.items v (slot_of store v) (are.each v);
   means = tidied.means;
+  records = recovered_records old new recovered sound;
   settled = tidied.settled;
 }
 

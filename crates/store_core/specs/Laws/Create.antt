@@ -6,7 +6,7 @@ use Rattle.std.proofs.lemmas.Bool.{lt-ltb, le-ltb, eq-eqb, ne_eqb, cases_eq, cas
 use mathlib.Core.Bool.{true≢false}
 use Rattle.site_model.specs.Disk.{File, Place, Files, Image, firm_file, IsFirm, Disk, IsSettled}
 use Rattle.site_model.specs.Disk as disk
-use Rattle.site_model.specs.Leaves.{place_cases, both, weaker}
+use Rattle.site_model.specs.Leaves.{Leaves, place_cases, both, weaker}
 use Rattle.site_model.specs.Touches.{Touches, firm_left, touches_look, touches_more}
 use Rattle.world_model.specs.declared.types.Line.TheVariants as line
 use Rattle.world_model.specs.declared.types.Reply.TheVariants as reply
@@ -17,16 +17,19 @@ use Rattle.world_model.specs.Moves.{grammatical, when, first, refusal_of, next_w
 use Rattle.file_names.specs.declared.Kind.{Kind}
 use Rattle.file_names.specs.declared.Kind.TheVariants.{Dat, Idx}
 use Rattle.file_names.specs.declared.FileName.{FileName}
-use Rattle.file_names.specs.Names.{IsKind}
+use Rattle.file_names.specs.Names.{IsKind, place_of}
 use Rattle.file_names.specs.Laws.Name.{same_name}
 use Rattle.needle_record.specs.Records.{fold_records}
-use Rattle.image_meaning.specs.Files.{VolumeFiles, contents, place_of, files_of, temps_of, max_servers, stands, bytes_at, SameVolume}
+use Rattle.image_meaning.specs.Files.{VolumeFiles, contents, files_of, temps_of, bytes_at, SameVolume}
+use Rattle.site_model.specs.Counts.{max_servers}
 use Rattle.image_meaning.specs.Laws.Plain.{IsAlone, IsAbsent, alone_plain, alone_means, alone_sound, exact_follows, exact_kept_records, no_files_absent, short_dats_absent, absent_mode, absent_means, absent_sound}
 use Rattle.image_meaning.specs.Laws.Copy.{volumes_apart, temp_apart}
 use Rattle.image_meaning.specs.Meaning.{volume_of, volume_in, max_volumes}
 use Rattle.image_meaning.specs.Sound.{Stands, IsSound, IsSoundVolume}
 use Rattle.image_meaning.specs.Ends.{HasNoFiles}
 use Rattle.image_meaning.specs.Laws.Local.{same_files, same_meaning, same_soundness}
+use Rattle.image_meaning.specs.Times.{records_in, records_of}
+use Rattle.image_meaning.specs.Laws.Times.{absent_records, exact_records}
 use Rattle.dat_volume.specs.Places.{dat_place, idx_place, dat_temp, idx_temp, IsOneOfFour}
 use Rattle.dat_volume.specs.Writes.{new_dat, NoneStands, IsPartlyMade, IsCreated}
 use Rattle.dat_volume.specs.Laws.Write.{new_super, new_exact}
@@ -37,9 +40,12 @@ use Rattle.store_core.specs.declared.store.Store.{Store}
 use Rattle.store_core.specs.Creating.{IsNewAt, MayMake, HasNew}
 use Rattle.store_core.specs.Refusals.{made_before, create_refusal}
 use Rattle.store_core.specs.Store.{slot_of, FitsVolume, HoldsPlain, Fits, marked_by, store_world}
-use Rattle.store_core.specs.Lines.{IsOfVolume, IsLeftNear, Serves, Stops}
+use Rattle.store_core.specs.Lines.{IsLeftNear, Serves, Stops}
+use Rattle.image_meaning.specs.Share.{IsOfVolume}
 use Rattle.store_core.specs.Laws.Store.{Shows, ShowsWorld, world_near, holds_means, store_sound, store_has, store_shows, store_beyond, stops_idle}
 use Rattle.store_core.specs.Laws.World.{HasOfSlot, world_has}
+use Rattle.store_core.specs.Written.{HasSameRecords}
+use Rattle.store_core.specs.Laws.Written.{same_left}
 
 -- ---- places
 
@@ -69,9 +75,6 @@ of_volume server v k (inr (inr e)) = (server, Idx, true, e)
 no_file : (file : Option File) → disk.standing file ≡ None → file ≡ None
 no_file None e = refl
 no_file (Some file) e = absurd cc
-
-stands_firm_file : (bytes : List ℕ) (file : Option File) → file ≡ Some (firm_file bytes) → disk.standing file ≡ Some bytes
-stands_firm_file bytes file e = ap disk.standing e
 
 -- no call touches a file of another volume
 pub make_touches : (store : Store) (v server : ℕ) (old new : Disk) → MayMake store v server old new → Touches (IsOfVolume v) old new
@@ -230,6 +233,22 @@ module _ (store : Store) (servers : ℕ) (files : Files) (fits : Fits store serv
       make_left (inr (inl part)) = left_absent (no_volume part.1 (subst (λ (o : Option (List ℕ)). length (unwrap_or o []) ≤ 8) (sym part.0) (omega arith)))
       make_left (inr (inr whole)) = left_made (alone whole.0 whole.1)
 
+      -- no volume has other records
+      pub make_records : IsPartlyMade server v image → HasSameRecords (contents files) image
+      make_records made q h = by_number (cases_eq q v)
+        where
+          after : IsPartlyMade server v image → records_in image v ≡ []
+          after (inl none) = absent_records (files_of image v) (absent_mode (files_of image v) (no_volume none.1 (subst (λ (o : Option (List ℕ)). length (unwrap_or o []) ≤ 8) (sym none.0) (omega arith))))
+          after (inr (inl part)) = absent_records (files_of image v) (absent_mode (files_of image v) (no_volume part.1 (subst (λ (o : Option (List ℕ)). length (unwrap_or o []) ≤ 8) (sym part.0) (omega arith))))
+          after (inr (inr whole)) = exact_records (files_of image v) (temps_of image v) server new_dat [] [] (alone whole.0 whole.1) new_exact
+
+          before : records_in (contents files) v ≡ []
+          before = absent_records (files_of (contents files) v) (absent_mode (files_of (contents files) v) (no_files_absent (files_of (contents files) v) absent.0))
+
+          by_number : (q ≡ v) ⊎ (q ≢ v) → records_in image q ≡ records_in (contents files) q
+          by_number (inl e) = subst (λ p. records_in image p ≡ records_in (contents files) p) (sym e) (after made ∙ sym before)
+          by_number (inr other) = ap records_of (sym (same_files q (contents files) image (others_same q h other)))
+
 -- a stop within a call that may make the volume
 pub create_stops : (store : Store) (servers v server : ℕ) (old new : Disk) → v < max_volumes → MayMake store v server old new → Stops (line.Create v server) store old new servers
 create_stops store servers v server old new below (inl same) = subst (λ d. Stops (line.Create v server) store old d servers) (sym same) (stops_idle (line.Create v server) store old servers)
@@ -237,6 +256,15 @@ create_stops store servers v server old new below (inr making) = record {
   leaves = λ fits settled. weaker (both making.1.touches.leaves (making.1.leaves (none_stands store servers old.files fits v below server making.0)))
       (λ image said left. make_left store servers old.files fits v below server making.0 image (λ k other. firm_left (old.files k) (image k) (settled k) (left.0.0 k other)) left.1);
 }
+
+-- and what is left of the records of all volumes
+pub create_leaves : (store : Store) (servers v server : ℕ) (old new : Disk) → v < max_volumes → MayMake store v server old new → Fits store servers old.files → IsSettled old.files
+    → Leaves old new (λ image said. HasSameRecords (contents old.files) image ⊎ HasSameRecords (contents old.files) image)
+create_leaves store servers v server old new below (inl same) fits settled =
+    subst (λ d. Leaves old d (λ image said. HasSameRecords (contents old.files) image ⊎ HasSameRecords (contents old.files) image)) (sym same) (same_left None old settled)
+create_leaves store servers v server old new below (inr making) fits settled =
+    weaker (both making.1.touches.leaves (making.1.leaves (none_stands store servers old.files fits v below server making.0)))
+    (λ image said left. inl (make_records store servers old.files fits v below server making.0 image (λ k other. firm_left (old.files k) (image k) (settled k) (left.0.0 k other)) left.1))
 
 -- ---- a making that was refused
 
@@ -350,3 +378,7 @@ module _ (before after : Store) (servers v server : ℕ) (old new : Disk) (below
     fits = new_fits;
     settled = new_settled;
   }
+
+  pub create_records : HasSameRecords (contents old.files) (contents new.files)
+  create_records = make_records before servers old.files fits v below server has.is_new (contents new.files) outside
+      (inr (inr (ap disk.standing created.firm.dat_file, ap disk.standing created.firm.idx_file)))

@@ -14,18 +14,23 @@ use Rattle.file_names.specs.declared.Kind.{Kind}
 use Rattle.file_names.specs.declared.Kind.TheVariants.{Dat, Idx}
 use Rattle.volume_forms.specs.Forms.{has_super}
 use Rattle.needle_record.specs.Records.{Placed, fold_records}
-use Rattle.image_meaning.specs.Files.{contents, place_of, files_of, temps_of, SameVolume}
+use Rattle.image_meaning.specs.Files.{contents, files_of, temps_of, SameVolume}
+use Rattle.file_names.specs.Names.{place_of}
 use Rattle.image_meaning.specs.Laws.Plain.{IsAlone, alone_plain, alone_means, alone_sound, has_super-append}
 use Rattle.image_meaning.specs.Laws.Copy.{volumes_apart}
 use Rattle.image_meaning.specs.Meaning.{volume_of, max_volumes}
 use Rattle.image_meaning.specs.Sound.{Stands, IsSound, IsSoundVolume}
 use Rattle.image_meaning.specs.Laws.Local.{same_files, same_soundness}
+use Rattle.image_meaning.specs.Times.{records_in, records_of}
+use Rattle.image_meaning.specs.Laws.Times.{alone_records, exact_records}
 use Rattle.dat_volume.specs.declared.volume.DatVolume.{DatVolume}
-use Rattle.dat_volume.specs.Places.{dat_place, idx_place, IsOneOfTwo, AreFirmRecords, KeepsRecords}
+use Rattle.dat_volume.specs.Places.{dat_place, idx_place, IsOneOfTwo, AreFirmRecords, LeavesRecords}
 use Rattle.store_core.specs.declared.slot.Slot.TheVariants as slot
 use Rattle.store_core.specs.declared.store.Store.{Store}
 use Rattle.store_core.specs.Store.{slot_of, FitsVolume, HoldsPlain, Fits, sealed_by, marked_by, store_world}
 use Rattle.store_core.specs.Lines.{IsLeftNear}
+use Rattle.needle_record.specs.declared.Record.{Record}
+use Rattle.store_core.specs.Written.{HasSameRecords, HasOneMore}
 use Rattle.store_core.specs.Laws.Store.{Shows, ShowsWorld, world_near, fold_records-mode, holds_means, store_sound, store_has, store_shows, store_beyond}
 
 -- a firm file of these bytes
@@ -42,6 +47,10 @@ module _ (store : Store) (servers : ℕ) (files : Files) (fits : Fits store serv
 
   pub holds_there : (store_world store (contents files)).volumes v ≡ Some (sealed_by sealed (fold_records holds.ps))
   holds_there = store_has store servers files fits v below ∙ (λ i. option_map (marked_by (had i)) (holds_means d v (files_of (contents files) v) (temps_of (contents files) v) holds i))
+
+  -- its records count
+  pub holds_records : records_in (contents files) v ≡ holds.ps
+  holds_records = exact_records (files_of (contents files) v) (temps_of (contents files) v) d.server holds.dat holds.idx holds.ps holds.alone holds.exact
 
   module _ (settled : IsSettled files) where
     -- at rest its two files are firm
@@ -72,7 +81,7 @@ module _ (store : Store) (servers : ℕ) (files : Files) (fits : Fits store serv
         (λ is. ⊎_elim (volumes_apart q v server d.server kind Dat false false h below other) (volumes_apart q v server d.server kind Idx false false h below other) is))
 
     -- and keep some records
-    module _ (front : List ℕ) (ps : List Placed) (keeps : KeepsRecords d.server v image front ps) (super : IsTrue (has_super front)) where
+    module _ (front : List ℕ) (ps : List Placed) (keeps : LeavesRecords d.server v image front ps) (super : IsTrue (has_super front)) where
       only : IsAlone (files_of image v) d.server (front ++ keeps.more) keeps.idx
       only = record {
         below = holds.alone.below;
@@ -87,6 +96,9 @@ module _ (store : Store) (servers : ℕ) (files : Files) (fits : Fits store serv
             (alone_sound (files_of image v) (temps_of image v) d.server (front ++ keeps.more) keeps.idx only keeps.follows (has_super-append front keeps.more super))
         | inr other ↦ same_soundness q (contents files) image (others_same q h other) (store_sound store servers files fits q h)
       ]
+
+      pub kept_count : records_in image v ≡ ps
+      kept_count = alone_records (files_of image v) (temps_of image v) d.server (front ++ keeps.more) keeps.idx only ∙ keeps.kept
 
       kept_means : volume_of (files_of image v) ≡ Some (fold_records ps)
       kept_means = alone_means (files_of image v) (temps_of image v) d.server (front ++ keeps.more) keeps.idx only ∙ ap (λ (qs : List Placed). Some (fold_records qs)) keeps.kept
@@ -117,7 +129,7 @@ module _ (store : Store) (servers : ℕ) (files : Files) (fits : Fits store serv
     pub put_left : (l : Line) (next : World) (p : Placed) → Outcome (store_world store (contents files)) (grammatical l) next
         → next.jobs ≡ [] → next.volumes v ≡ Some (sealed_by sealed (fold_records (holds.ps ++ p ∷ [])))
         → ((q : ℕ) → q ≢ v → next.volumes q ≡ (store_world store (contents files)).volumes q)
-        → KeepsRecords d.server v image holds.dat holds.ps ⊎ KeepsRecords d.server v image holds.dat (holds.ps ++ p ∷ [])
+        → LeavesRecords d.server v image holds.dat holds.ps ⊎ LeavesRecords d.server v image holds.dat (holds.ps ++ p ∷ [])
         → IsLeftNear (store_world store (contents files)) l image
     put_left l next p outcome no_jobs there elsewhere (inl before) = record {
       sound = kept_sound holds.dat holds.ps before holds.super;
@@ -135,3 +147,20 @@ module _ (store : Store) (servers : ℕ) (files : Files) (fits : Fits store serv
             (kept_shows holds.dat (holds.ps ++ p ∷ []) after holds.super next no_jobs there elsewhere) u may,
       );
     }
+
+    others_have : (q : ℕ) → q < max_volumes → q ≢ v → records_in image q ≡ records_in (contents files) q
+    others_have q h other = ap records_of (sym (same_files q (contents files) image (others_same q h other)))
+
+    -- So the records are the same, or there is one more.
+    pub put_wrote : (place : ℕ) (r : Record) → LeavesRecords d.server v image holds.dat holds.ps ⊎ LeavesRecords d.server v image holds.dat (holds.ps ++ (place, r) ∷ [])
+        → HasSameRecords (contents files) image ⊎ HasOneMore v r (contents files) image
+    put_wrote place r (inl before) = inl (λ q h. by_number q h (cases_eq q v))
+      where
+        by_number : (q : ℕ) → q < max_volumes → (q ≡ v) ⊎ (q ≢ v) → records_in image q ≡ records_in (contents files) q
+        by_number q h (inl e) = subst (λ p. records_in image p ≡ records_in (contents files) p) (sym e) (kept_count holds.dat holds.ps before holds.super ∙ sym holds_records)
+        by_number q h (inr other) = others_have q h other
+    put_wrote place r (inr after) = inr (record {
+      place = place;
+      there = kept_count holds.dat (holds.ps ++ (place, r) ∷ []) after holds.super ∙ ap (λ ps. ps ++ (place, r) ∷ []) (sym holds_records);
+      others = others_have;
+    })

@@ -4,7 +4,7 @@
 # Runs weed, or the PROGRAM, and bench/program.c, built plain and tuned, in turn on the same scripts in memory, with no
 # fsync. Tells the processor's time of a line (user and system, medians over the rounds) and the ratios (medians of
 # those within rounds). Then how puts, the next opening and gets of weed grow with the number of needles. Needs gcc and
-# python3. CORE names the processor that is used.
+# python3. CORE names the processor that is used; with PRIORITY=50, as root, no other program runs there meanwhile.
 set -eu
 here=$(cd "$(dirname "$0")/.." && pwd)
 rounds=${1:-7}
@@ -19,7 +19,9 @@ fi
 gcc -O2 -o "$work/plain" "$here/bench/program.c"
 gcc -O2 -DTUNED -msse4.2 -o "$work/tuned" "$here/bench/program.c"
 gcc -O2 -shared -fPIC -o "$work/nosync.so" "$here/bench/nosync.c"
-taskset -c "${CORE:-1}" python3 - "$work" "$program" "$rounds" <<'PY'
+first=(taskset -c "${CORE:-1}")
+[ -z "${PRIORITY:-}" ] || first=(chrt -f "$PRIORITY" "${first[@]}")
+"${first[@]}" python3 - "$work" "$program" "$rounds" <<'PY'
 import os, random, shutil, statistics, subprocess, sys
 
 work, weed, rounds = sys.argv[1], sys.argv[2], int(sys.argv[3])

@@ -13,7 +13,7 @@ use needle_record::{HEADER_LENGTH, NeedleFault, Record, read_header, take_record
 use site_model::{DeviceFault, Site};
 use std::alloc::Global;
 use volume_forms::Entry;
-use whole_file::{FileFault, read_range};
+use whole_file::read_range;
 use wire_num::record_length;
 use world_model::limits::MAX_DATA;
 use world_model::types::What;
@@ -172,11 +172,7 @@ fn range_at<T: Site>(
         (IsErrOf result (GetFault.Fault (record { server = server }))) }
     ensures blame { IfErr result (ReadBlamesServer server) }
 {
-    match read_range(alloc, site, server, name, at, count) {
-        Ok(bytes) => Ok(bytes),
-        Err(FileFault::Fault(device)) => Err(GetFault::Fault(device)),
-        Err(FileFault::Memory) => Err(GetFault::Memory),
-    }
+    Ok(read_range(alloc, site, server, name, at, count)?)
 }
 
 // The header is the entry's.

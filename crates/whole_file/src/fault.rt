@@ -1,8 +1,9 @@
 //! Why a whole file was not read or written.
 ghost use Rattle.std.specs.Prelude.{◌≡◌};
 ghost use Rattle.whole_file.specs.declared.fault.FileFault.TheVariants.{Memory as FileMemory};
+ghost use Rattle.whole_file.specs.Faults.{opening_of};
 
-use site_model::DeviceFault;
+use site_model::{DeviceFault, OpenFault};
 use std::alloc::AllocError;
 
 /// Why a file was not read or written.
@@ -17,5 +18,16 @@ impl From<AllocError> for FileFault {
 
     fn from(_error: AllocError) -> FileFault {
         FileFault::Memory
+    }
+}
+
+impl From<FileFault> for OpenFault {
+    ghost from_gives = { λ fault opening. opening ≡ opening_of fault };
+
+    fn from(fault: FileFault) -> OpenFault {
+        match fault {
+            FileFault::Fault(device) => OpenFault::from(device),
+            FileFault::Memory => OpenFault::Memory,
+        }
     }
 }

@@ -1,10 +1,16 @@
-//! The steps of each plan of the volume of 56 bytes, one after the other, to its end.
+//! The steps of each plan of the volume of 56 bytes, one after the other, to its end, each of them legal.
+ghost use Rattle.std.specs.Prelude.{◌≡◌, IfOk};
+ghost use Rattle.shard_table.specs.Table.{IsAdded};
 ghost use Rattle.plan_steps.specs.Next.{IsSized};
 
 use crate::list_tests::{balance, decode, decode_less, decode_long, encode, rebuild};
 use crate::{FileState, Plan, Progress, Stage, Step};
-use file_names::Kind;
+use file_names::{Kind, MAX_SHARDS};
+use shard_table::ShardTable;
+use std::alloc::{AllocError, Global};
 use std::test::Fail;
+
+const SERVERS: u32 = 4;
 
 fn is_shard(kind: Kind) -> bool {
     match kind {
@@ -73,37 +79,104 @@ fn take(progress: &mut Progress, step: Step, joined: u64) {
     }
 }
 
-// How many steps the plan has, where the data file that a decode joins has this length.
-fn steps(plan: &Plan, progress: &mut Progress, joined: u64) -> u32
+// A shard's place, where a table may have it.
+fn set(table: &mut ShardTable, shard: u8, place: Option<u32>)
+    requires { IsAdded table.old 7 }
+    ensures { IsAdded table.new 7 }
+{
+    if shard >= MAX_SHARDS {
+        return;
+    }
+    match place {
+        Some(server) if server >= table.servers() => {}
+        _ => table.set(7, shard, place),
+    }
+}
+
+// The shards as they stand when the plan begins.
+fn table_of(alloc: Global, plan: &Plan) -> Result<ShardTable, AllocError>
+    ensures { IfOk result (λ table. IsAdded table 7) }
+{
+    let mut table = ShardTable::new(alloc, SERVERS);
+    table.add_volume(7)?;
+    for (shard, server) in &plan.places {
+        set(&mut table, *shard, Some(*server));
+    }
+    Ok(table)
+}
+
+// The table after the step.
+fn follow(table: &mut ShardTable, step: Step)
+    requires { IsAdded table.old 7 }
+    ensures { IsAdded table.new 7 }
+{
+    match step {
+        Step::Register {
+            server,
+            kind: Kind::Shard(shard),
+        } => set(table, shard, Some(server)),
+        _ => {}
+    }
+}
+
+// How many steps the plan has, where the data file that a decode joins has this length. None, if one isn't legal.
+fn steps(alloc: Global, plan: &Plan, joined: u64) -> Result<Option<u32>, AllocError>
     requires { IsSized plan.now }
 {
+    let mut progress = Progress::new(alloc, plan)?;
+    let mut table = table_of(alloc, plan)?;
     for count in 0..100 {
-        let Some(step) = plan.next(progress) else {
-            return count;
+        let Some(step) = plan.next(&progress) else {
+            return Ok(Some(count));
         };
-        take(progress, step, joined);
+        if !plan.legal(&step, &table, &progress) {
+            return Ok(None);
+        }
+        take(&mut progress, step, joined);
+        follow(&mut table, step);
     }
-    100
+    Ok(Some(100))
 }
 
 #[test]
 fn each_plan_comes_to_its_end(rt: HostRuntime) -> Result<(), Fail> {
-    let plan = encode(rt.alloc())?;
-    assert_eq!(rt; steps(&plan, &mut Progress::new(rt.alloc(), &plan)?, 0), 44);
-    let plan = rebuild(rt.alloc())?;
-    assert_eq!(rt; steps(&plan, &mut Progress::new(rt.alloc(), &plan)?, 0), 16);
-    let plan = balance(rt.alloc())?;
-    assert_eq!(rt; steps(&plan, &mut Progress::new(rt.alloc(), &plan)?, 0), 15);
-    let plan = decode(rt.alloc())?;
-    assert_eq!(rt;
-        steps(&plan, &mut Progress::new(rt.alloc(), &plan)?, 56),
-        38
-    );
-    let plan = decode_less(rt.alloc())?;
-    assert_eq!(rt;
-        steps(&plan, &mut Progress::new(rt.alloc(), &plan)?, 88),
-        39
-    );
+    let alloc = rt.alloc();
+    assert_eq!(rt; steps(alloc, &encode(alloc)?, 0)?, Some(44));
+    assert_eq!(rt; steps(alloc, &rebuild(alloc)?, 0)?, Some(16));
+    assert_eq!(rt; steps(alloc, &balance(alloc)?, 0)?, Some(15));
+    assert_eq!(rt; steps(alloc, &decode(alloc)?, 56)?, Some(38));
+    assert_eq!(rt; steps(alloc, &decode_less(alloc)?, 88)?, Some(39));
+    Ok(())
+}
+
+// Whether the step is legal before any other was taken.
+fn may_begin(alloc: Global, plan: &Plan, step: Step) -> Result<bool, AllocError>
+    requires { IsSized plan.now }
+{
+    let progress = Progress::new(alloc, plan)?;
+    Ok(plan.legal(&step, &table_of(alloc, plan)?, &progress))
+}
+
+#[test]
+fn no_step_comes_before_its_time(rt: HostRuntime) -> Result<(), Fail> {
+    let alloc = rt.alloc();
+    let plan = encode(alloc)?;
+    assert!(rt; may_begin(alloc, &plan, Step::PutInfo { server: 3 })?);
+    assert!(rt; !may_begin(alloc, &plan, Step::DropIndex { server: 2 })?);
+    assert!(rt; !may_begin(alloc, &plan, Step::DropData { server: 2 })?);
+    let kind = Kind::Shard(5);
+    assert!(rt; !may_begin(alloc, &plan, Step::Sync { server: 1, kind })?);
+    assert!(rt; !may_begin(alloc, &plan, Step::Register { server: 1, kind })?);
+    let plan = decode(alloc)?;
+    assert!(rt; !may_begin(alloc, &plan, Step::PutInfo { server: 3 })?);
+    assert!(rt; !may_begin(alloc, &plan, Step::Unregister { server: 1, kind })?);
+    assert!(rt; !may_begin(alloc, &plan, Step::JoinDeletes { at: 0 })?);
+    let late = Step::JoinPiece {
+        row: 0,
+        block: 1,
+        at: 0,
+    };
+    assert!(rt; !may_begin(alloc, &plan, late)?);
     Ok(())
 }
 

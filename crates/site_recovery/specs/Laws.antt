@@ -1,4 +1,3 @@
 pub mod Step
 pub mod Test
 pub mod CodedStep
-pub mod CodedTest

@@ -20,12 +20,13 @@ use world_model::types::What;
 
 /// Where a record stands, by its entry.
 #[derive(Clone, Copy)]
-pub(crate) struct Place {
+pub struct Place {
     pub at: u64,
     pub length: u64,
 }
 
-pub(crate) fn place_of(entry: Entry) -> Place
+/// The place of the entry's record.
+pub fn place_of(entry: Entry) -> Place
     ensures at { result.at ≡ 8 * entry.offset }
     ensures length { result.length ≡ record_length (fields_size entry.size) }
     ensures short { result.at + result.length < 2 ^ 63 }
@@ -175,9 +176,9 @@ fn range_at<T: Site>(
     Ok(read_range(alloc, site, server, name, at, count)?)
 }
 
-// The header is the entry's.
+/// Sees that the bytes begin with the header of the entry's record.
 #[tactic(auto, unfolding(crate::specs::Reading::front_damage))]
-fn check_header(bytes: &[u8], entry: Entry) -> Result<(), GetFault>
+pub fn check_header(bytes: &[u8], entry: Entry) -> Result<(), GetFault>
     requires { 16 ≤ length bytes.now }
     ensures ok { OnOk result (front_damage bytes.now entry ≡ None) }
     ensures told { IfErr result (Tells (front_damage bytes.now entry)) }
@@ -200,8 +201,8 @@ fn damaged(what: What, a: u64, b: u64) -> GetFault
     GetFault::Damaged { what, a, b }
 }
 
-// A record of the entry's size is whole, so it is not short.
-fn damage(fault: NeedleFault) -> GetFault
+/// What the fault of a record that is whole tells. A record of the entry's size is whole, so it is not short.
+pub fn damage(fault: NeedleFault) -> GetFault
     requires { IsWholeFault fault }
     ensures told { Tells (reading_damage (Err fault)) result }
     ensures differ { HasDifference result }

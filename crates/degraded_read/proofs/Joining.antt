@@ -1,5 +1,5 @@
 -- How parts of shards come together to pieces, and pieces to a range of the data file.
-use Rattle.std.proofs.Common.{◌≡◌, inl, inr, ℕ, zero, suc, ◌+◌, ◌-◌, ◌*◌, ◌%◌, ◌<◌, ◌≤◌, min, List, [], ◌∷◌, ◌++◌, length, map, take, drop, refl, sym, ◌∙◌, ap, subst, length-take, length-drop, append_assoc, arith}
+use Rattle.std.proofs.Common.{◌≡◌, ◌⊎◌, inl, inr, ℕ, zero, suc, ◌+◌, ◌-◌, ◌*◌, ◌%◌, ◌<◌, ◌≤◌, min, List, [], ◌∷◌, ◌++◌, length, map, take, drop, refl, sym, ◌∙◌, ap, subst, length-take, length-drop, append_assoc, arith}
 use Rattle.std.specs.Prelude.{slice_index, slice_index_or}
 use Rattle.std.specs.List.{AllByRecursion, range_with_len}
 use Rattle.std.proofs.lemmas.Bool.{cases_lt}
@@ -21,33 +21,40 @@ use Rattle.stripe_layout.specs.Stripes.{shard_length, unstriped}
 use Rattle.stripe_layout.specs.Pieces.{IsPiece, AreLocated, piece_of, pieces_of}
 use Rattle.image_meaning.specs.Files.{VolumeFiles, contents, files_of}
 use Rattle.image_meaning.specs.Coded.{known_at, shard_by, data_shards, dat_by}
-use Rattle.shard_table.specs.Table.{Table, row_of}
-use Rattle.degraded_read.specs.Reading.{HasOneCode, HasPlaces}
+use Rattle.shard_table.specs.Table.{Row, Table, row_of}
+use Rattle.degraded_read.specs.Reading.{HasPlaces, IsCertain}
 use Rattle.degraded_read.specs.Ranges.{FillsPiece, FillsPieces, GivesRange, IsKeptBefore, parts_in, parts_of, shards_by}
 
 -- ---- parts of one piece
 
 -- so much of a shard stands in the room, from a place of it on
-abbrev pub FillsPart : Files → ℕ → Info → ℕ → ℕ → ℕ → ℕ → List ℕ → Type 0
-FillsPart files volume info shard at from size out = FillsPiece files volume info (record { shard = shard; at = at; length = size }) from out
+abbrev pub FillsPart : Files → ℕ → Info → Row → Type 0 → ℕ → ℕ → ℕ → ℕ → List ℕ → Type 0
+FillsPart files volume info row none_failed shard at from size out =
+    FillsPiece files volume info row none_failed (record { shard = shard; at = at; length = size }) from out
 
-pub fills_whole : (files : Files) (volume : ℕ) (info : Info) (piece : Piece) (from size : ℕ) (out : List ℕ) → piece.length ≤ size → FillsPart files volume info piece.shard piece.at from size out → FillsPiece files volume info piece from out
-fills_whole files volume info piece from size out h fills code i k = fills code i (omega arith)
+-- where nothing failed now, nothing had before
+pub certain_before : {code lowest before now : Type 0} → (now → before) → code ⊎ (lowest × now) → code ⊎ (lowest × before)
+certain_before kept (inl one) = inl one
+certain_before kept (inr least) = inr (least.0, kept least.1)
 
--- a part behind others
-pub fills_next : (files : Files) (volume : ℕ) (info : Info) (shard at from done size : ℕ) (old new : List ℕ)
-    → IsKeptBefore (from + done) old new
-    → FillsPart files volume info shard at from done old → FillsPart files volume info shard (at + done) (from + done) size new
-    → FillsPart files volume info shard at from (done + size) new
-fills_next files volume info shard at from done size old new kept so_far more code i h = elim (cases_lt i done) [
-  | inl before ↦ kept (from + i) (omega arith) ∙ so_far code i before
-  | inr behind ↦
-      let place : from + done + (i - done) ≡ from + i = omega arith in
-      let byte : at + done + (i - done) ≡ at + i = omega arith in
-      ap (slice_index new) (sym place)
-      ∙ more code (i - done) (omega arith)
-      ∙ ap (λ p. value_through (known_at info.geometry.ratio (files_of (contents files) volume) p) shard) byte
-]
+module _ (files : Files) (volume : ℕ) (info : Info) (row : Row) where
+  pub fills_whole : {none_failed : Type 0} (piece : Piece) (from size : ℕ) (out : List ℕ) → piece.length ≤ size → FillsPart files volume info row none_failed piece.shard piece.at from size out → FillsPiece files volume info row none_failed piece from out
+  fills_whole piece from size out h fills certain i k = fills certain i (omega arith)
+
+  -- a part behind others
+  pub fills_next : {before now : Type 0} (shard at from done size : ℕ) (old new : List ℕ) → (now → before)
+      → IsKeptBefore (from + done) old new
+      → FillsPart files volume info row before shard at from done old → FillsPart files volume info row now shard (at + done) (from + done) size new
+      → FillsPart files volume info row now shard at from (done + size) new
+  fills_next shard at from done size old new earlier kept so_far more certain i h = elim (cases_lt i done) [
+    | inl before ↦ kept (from + i) (omega arith) ∙ so_far (certain_before earlier certain) i before
+    | inr behind ↦
+        let place : from + done + (i - done) ≡ from + i = omega arith in
+        let byte : at + done + (i - done) ≡ at + i = omega arith in
+        ap (slice_index new) (sym place)
+        ∙ more certain (i - done) (omega arith)
+        ∙ ap (λ p. value_through (known_at info.geometry.ratio (files_of (contents files) volume) p) shard) byte
+  ]
 
 -- ---- shards by their codewords
 
@@ -103,41 +110,42 @@ take_within (suc m) (suc n) (x ∷ xs) h = ap (λ l. x ∷ l) (take_within m n x
 
 -- ---- pieces one after the other
 
-module _ (files : Files) (volume : ℕ) (info : Info) where
+module _ (files : Files) (volume : ℕ) (info : Info) (row : Row) where
   abbrev shards : List (List ℕ)
   shards = shards_by files volume info
 
   -- The first bytes of the room are the first of these pieces, and the others are to come.
-  pub record HasJoined (pieces : List Piece) (done : ℕ) (rest : List Piece) (out : List ℕ) : Type 0 where
-    pub joined : HasOneCode files volume info → take done out ++ pieces_of shards rest ≡ pieces_of shards pieces
+  pub record HasJoined (none_failed : Type 0) (pieces : List Piece) (done : ℕ) (rest : List Piece) (out : List ℕ) : Type 0 where
+    pub joined : IsCertain files volume info row none_failed → take done out ++ pieces_of shards rest ≡ pieces_of shards pieces
 
-  pub none_joined : (pieces : List Piece) (out : List ℕ) → HasJoined pieces 0 pieces out
-  none_joined pieces out = record { joined = λ code. refl }
+  pub none_joined : {none_failed : Type 0} (pieces : List Piece) (out : List ℕ) → HasJoined none_failed pieces 0 pieces out
+  none_joined pieces out = record { joined = λ certain. refl }
 
-  pub piece_joins : (pieces : List Piece) (done : ℕ) (p : Piece) (rest : List Piece) (old new : List ℕ) → IsPiece info.geometry info.dat_size p → length new ≡ length old → done + p.length ≤ length old
-      → IsKeptBefore done old new → FillsPiece files volume info p done new
-      → HasJoined pieces done (p ∷ rest) old → HasJoined pieces (done + p.length) rest new
-  piece_joins pieces done p rest old new is same within kept fills so_far = record {
-    joined = λ code.
+  pub piece_joins : {before now : Type 0} (pieces : List Piece) (done : ℕ) (p : Piece) (rest : List Piece) (old new : List ℕ) → (now → before)
+      → IsPiece info.geometry info.dat_size p → length new ≡ length old → done + p.length ≤ length old
+      → IsKeptBefore done old new → FillsPiece files volume info row now p done new
+      → HasJoined before pieces done (p ∷ rest) old → HasJoined now pieces (done + p.length) rest new
+  piece_joins pieces done p rest old new earlier is same within kept fills so_far = record {
+    joined = λ certain.
         ap (λ l. l ++ pieces_of shards rest) (take-add done p.length new)
-        ∙ (λ i. (front_kept done old new same (omega arith) kept i ++ piece_is info.geometry.ratio (files_of (contents files) volume) (shard_length info.geometry info.dat_size) p done new is.shard is.within_shard (omega (arith, same)) (fills code) i) ++ pieces_of shards rest)
+        ∙ (λ i. (front_kept done old new same (omega arith) kept i ++ piece_is info.geometry.ratio (files_of (contents files) volume) (shard_length info.geometry info.dat_size) p done new is.shard is.within_shard (omega (arith, same)) (fills certain) i) ++ pieces_of shards rest)
         ∙ append_assoc (take done old) (piece_of shards p) (pieces_of shards rest)
-        ∙ so_far.joined code;
+        ∙ so_far.joined (certain_before earlier certain);
   }
 
-  pub all_joined : (pieces : List Piece) (done : ℕ) (out : List ℕ) → length out ≤ done → HasJoined pieces done [] out → FillsPieces files volume info pieces out
-  all_joined pieces done out all so_far code = sym (take_all done out all) ∙ sym (append-nil (take done out)) ∙ so_far.joined code
+  pub all_joined : {before now : Type 0} (pieces : List Piece) (done : ℕ) (out : List ℕ) → (now → before) → length out ≤ done → HasJoined before pieces done [] out → FillsPieces files volume info row now pieces out
+  all_joined pieces done out earlier all so_far certain = sym (take_all done out all) ∙ sym (append-nil (take done out)) ∙ so_far.joined (certain_before earlier certain)
 
   -- all pieces of a range are the range
-  pub range_is : (pieces : List Piece) (offset count : ℕ) (out : List ℕ) → AreLocated info.geometry info.dat_size offset count pieces → length out ≡ count → offset + count ≤ info.dat_size
-      → FillsPieces files volume info pieces out → GivesRange files volume info offset out
+  pub range_is : {none_failed : Type 0} (pieces : List Piece) (offset count : ℕ) (out : List ℕ) → AreLocated info.geometry info.dat_size offset count pieces → length out ≡ count → offset + count ≤ info.dat_size
+      → FillsPieces files volume info row none_failed pieces out → GivesRange files volume info row none_failed offset out
   unfolding dat_by
-  range_is pieces offset count out located long within fills code =
+  range_is pieces offset count out located long within fills certain =
       let r : Ratio = info.geometry.ratio in
       let of_volume : VolumeFiles = files_of (contents files) volume in
       let n : ℕ = shard_length info.geometry info.dat_size in
       let rows : List ℕ = unstriped info.geometry info.dat_size shards in
-      fills code
+      fills certain
       ∙ located.rows shards (length-map-range_with_len (shard_by r of_volume n) 0 (data_count r)) (lengths_are r of_volume n 0 (data_count r))
       ∙ ap (λ m. take m (drop offset rows)) (sym long)
       ∙ sym (front rows)
@@ -202,6 +210,8 @@ placed_still old new v w info table same volume placed =
     subst (λ u. HasPlaces new.files u info (row_of table u)) (sym volume)
     (subst (λ (d : Disk). HasPlaces d.files v info (row_of table v)) (sym same) placed)
 
-pub filled_still : (old new : Disk) (v w : ℕ) (info : Info) (p : Piece) (from : ℕ) (out : List ℕ) → new ≡ old → w ≡ v → FillsPiece new.files w info p from out → FillsPiece old.files v info p from out
-filled_still old new v w info p from out same volume fills =
-    subst (λ (d : Disk). FillsPiece d.files v info p from out) same (subst (λ u. FillsPiece new.files u info p from out) volume fills)
+pub filled_still : (old new : Disk) (v w : ℕ) (info : Info) (table : Table) (none_failed : Type 0) (p : Piece) (from : ℕ) (out : List ℕ) → new ≡ old → w ≡ v → FillsPiece new.files w info (row_of table w) none_failed p from out
+    → FillsPiece old.files v info (row_of table v) none_failed p from out
+filled_still old new v w info table none_failed p from out same volume fills =
+    subst (λ (d : Disk). FillsPiece d.files v info (row_of table v) none_failed p from out) same
+    (subst (λ u. FillsPiece new.files u info (row_of table u) none_failed p from out) volume fills)

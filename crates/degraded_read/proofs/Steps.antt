@@ -15,7 +15,7 @@ use Rattle.site_model.specs.Disk.{Files}
 use Rattle.site_model.specs.Counts.{Counts, Rose, IsLater}
 use Rattle.rs_code.specs.Combination.{AreDistinct}
 use Rattle.shard_table.specs.Table.{Row, place_in}
-use Rattle.degraded_read.specs.Gathering.{AreNames, HasGathered, HasEnough, IsBlamed, standing_in, reads_of, shard_at, shard_name, rose, stands_in, is_reliable, reliable}
+use Rattle.degraded_read.specs.Gathering.{AreNames, HasGathered, HasEnough, standing_in, reads_of, shard_at, shard_name, rose, stands_in, is_reliable, reliable}
 
 -- ---- lists
 
@@ -93,19 +93,6 @@ still row old now new later i e = by_place (place_in row i) e
     by_place : (o : Option ℕ) → option_map_or (λ s. not (rose (old.faults s) (new.faults s))) o false ≡ true → option_map_or (λ s. not (rose (old.faults s) (now.faults s))) o false ≡ true
     by_place None q = q
     by_place (Some s) q = by_rise s (rose (old.faults s) (now.faults s)) refl q
-
--- the server that is told stays one whose faults rose
-pub blamed_later : (old now new : Counts) (failed : Option ℕ) → IsLater now new → IsBlamed failed old now → IsBlamed failed old new
-blamed_later old now new None later blamed = tt
-blamed_later old now new (Some s) later blamed = omega (arith, later.faults s, blamed)
-
--- the lower of the server that failed before and the one that failed now
-pub blamed_next : (old now new : Counts) (failed : Option ℕ) (server told : ℕ) → IsLater old now → IsLater now new → Rose (now.faults server) (new.faults server) → IsBlamed failed old now → (told ≡ server) ⊎ (failed ≡ Some told)
-    → IsBlamed (Some told) old new
-blamed_next old now new failed server told before later risen blamed (inl here) = subst (λ s. Rose (old.faults s) (new.faults s)) (sym here) (omega (arith, before.faults server, risen))
-blamed_next old now new failed server told before later risen blamed (inr other) =
-    let was : Rose (old.faults told) (now.faults told) = subst (λ f. IsBlamed f old now) other blamed in
-    omega (arith, was, later.faults told)
 
 module _ (tells : Type 0) (files : Files) (volume : ℕ) (row : Row) (at size : ℕ) (old : Counts) where
   -- a shard that stands nowhere
@@ -198,7 +185,7 @@ range_append a (suc m) d =
     ap (range_with_len a) more ∙ ap (λ xs. a ∷ xs) (range_append (a + 1) m d ∙ ap (λ b. range_with_len (a + 1) m ++ range_with_len b d) place)
 
 -- what passes of the first numbers is the front of what passes of more
-front_passes : (test : ℕ → Bool) (m n : ℕ) (xs : List ℕ) → m ≤ n → xs ≡ filter test (range_with_len 0 m) → xs ≡ take (length xs) (filter test (range_with_len 0 n))
+pub front_passes : (test : ℕ → Bool) (m n : ℕ) (xs : List ℕ) → m ≤ n → xs ≡ filter test (range_with_len 0 m) → xs ≡ take (length xs) (filter test (range_with_len 0 n))
 front_passes test m n xs h e =
     let rest : m + (n - m) ≡ n = omega arith in
     let all : filter test (range_with_len 0 n) ≡ xs ++ filter test (range_with_len (0 + m) (n - m)) =

@@ -1,12 +1,16 @@
 -- Shards that were read one after the other, the lowest first, past those that failed.
-use Rattle.std.specs.Prelude.{◌≡◌, ℕ, ◌+◌, ◌-◌, ◌*◌, ◌^◌, ◌<◌, ◌≤◌, min, nat_le, Bool, true, false, not, if◌then◌else◌, is_some, IsSome, List, [], length, filter, take, slice_index, slice_index_or, Option, Some, None, IfSome}
+use Rattle.std.specs.Prelude.{◌≡◌, ℕ, ◌+◌, ◌-◌, ◌*◌, ◌^◌, ◌<◌, ◌≤◌, min, nat_le, Bool, true, false, not, if◌then◌else◌, is_some, IsSome, List, [], length, filter, map, take, slice_index, slice_index_or, Option, Some, None}
 use Rattle.std.specs.Option.{option_map_or}
 use Rattle.std.specs.List.{AllByRecursion, range_with_len}
 use Rattle.site_model.specs.Disk.{Files, bytes_of}
-use Rattle.site_model.specs.Counts.{Counts, Rose}
+use Rattle.site_model.specs.Counts.{Counts}
 use Rattle.file_names.specs.declared.Kind.TheVariants.{Shard}
 use Rattle.file_names.specs.Names.{name_bytes}
+use Rattle.world_model.specs.declared.types.Ratio.{Ratio}
+use Rattle.world_model.specs.Ratios.{data_count, parity_count}
+use Rattle.rs_code.specs.Codeword.{IsCodeword}
 use Rattle.rs_code.specs.Combination.{AreDistinct}
+use Rattle.rs_kernel.specs.Pieces.{AreEnough}
 use Rattle.shard_table.specs.Table.{Row, place_in}
 
 abbrev pub shard_name : ℕ → ℕ → List ℕ
@@ -45,10 +49,6 @@ is_reliable row old now i = option_map_or (λ s. not (rose (old.faults s) (now.f
 abbrev pub reliable : Row → Counts → Counts → ℕ → ℕ
 reliable row old now n = length (filter (is_reliable row old now) (range_with_len 0 n))
 
--- the faults of the server rose, where one is told
-abbrev pub IsBlamed : Option ℕ → Counts → Counts → Type 0
-IsBlamed failed old now = IfSome failed (λ s. Rose (old.faults s) (now.faults s))
-
 -- those of the first n shards that stand
 abbrev pub standing_in : Row → ℕ → List ℕ
 standing_in row n = filter (stands_in row) (range_with_len 0 n)
@@ -83,3 +83,18 @@ pub record HasEnough (k n : ℕ) (tells : Type 0) (files : Files) (volume : ℕ)
   pub lowest : failed ≡ None → have ≡ take (length have) (standing_in row n)
   pub few : length have < k → reliable row old now n < k
   pub some_failed : length have < k → k ≤ length (standing_in row n) → IsSome failed
+
+-- At most so many numbers, in a list of one length.
+pub record AreNumbers (most count : ℕ) (have : List ℕ) : Type 0 where
+  pub few : count ≤ most
+  pub room : length have ≡ 16
+
+-- Each byte is that of every codeword that has the bytes of some shards of the row there, as many as give the others,
+-- the lowest ones where none failed.
+pub record IsRestoredPart (r : Ratio) (files : Files) (volume : ℕ) (row : Row) (shard at : ℕ) (failed : Option ℕ) (out : List ℕ) : Type 0 where
+  pub have : List ℕ
+  pub shards : AreEnough (data_count r) (parity_count r) have
+  pub placed : AllByRecursion (λ j. stands_in row j ≡ true) have
+  pub lowest : failed ≡ None → have ≡ take (data_count r) (standing_in row (data_count r + parity_count r))
+  pub bytes : (i : ℕ) → i < length out → (c : List ℕ) → IsCodeword (data_count r) (parity_count r) c
+      → map (slice_index c) have ≡ map (λ j. slice_index (shard_at files volume row j) (at + i)) have → slice_index out i ≡ slice_index c shard

@@ -1,8 +1,8 @@
 -- What a read of a range of a coded volume's data file gives, and in how many parts it is read.
-use Rattle.std.specs.Prelude.{◌≡◌, ℕ, ◌+◌, ◌*◌, ◌/◌, ◌<◌, List, length, take, drop, slice_index, Option}
+use Rattle.std.specs.Prelude.{◌≡◌, ℕ, ◌+◌, ◌*◌, ◌/◌, ◌<◌, List, length, take, drop, slice_index}
 use Rattle.std.specs.List.{sum_by}
 use Rattle.site_model.specs.Disk.{Files}
-use Rattle.site_model.specs.Counts.{Counts, IsLater, TakesCalls}
+use Rattle.site_model.specs.Counts.{Counts, TakesCalls}
 use Rattle.rs_code.specs.Codeword.{value_through}
 use Rattle.stripe_layout.specs.declared.Info.{Info}
 use Rattle.stripe_layout.specs.declared.Piece.{Piece}
@@ -11,19 +11,18 @@ use Rattle.stripe_layout.specs.Stripes.{shard_length}
 use Rattle.shard_table.specs.Table.{Row}
 use Rattle.image_meaning.specs.Files.{contents, files_of}
 use Rattle.image_meaning.specs.Coded.{known_at, data_shards, dat_by}
-use Rattle.degraded_read.specs.Gathering.{IsBlamed}
-use Rattle.degraded_read.specs.Reading.{HasOneCode, shards_standing}
+use Rattle.degraded_read.specs.Reading.{IsCertain, shards_standing}
 
--- Where the shards that stand are of one code, the bytes are those of the data file that they give, from an offset
--- on.
-abbrev pub GivesRange : Files → ℕ → Info → ℕ → List ℕ → Type 0
-GivesRange files volume info offset out = HasOneCode files volume info
+-- Where it is certain what is to be answered, the bytes are those of the data file that the shards give, from an
+-- offset on.
+abbrev pub GivesRange : Files → ℕ → Info → Row → Type 0 → ℕ → List ℕ → Type 0
+GivesRange files volume info row none_failed offset out = IsCertain files volume info row none_failed
     → out ≡ take (length out) (drop offset (dat_by (files_of (contents files) volume) info))
 
--- Where they are, a piece of a shard stands in the room, from a place of it on.
-abbrev pub FillsPiece : Files → ℕ → Info → Piece → ℕ → List ℕ → Type 0
-FillsPiece files volume info piece from out = HasOneCode files volume info → (i : ℕ) → i < piece.length
-    → slice_index out (from + i)
+-- Where it is, a piece of a shard stands in the room, from a place of it on.
+abbrev pub FillsPiece : Files → ℕ → Info → Row → Type 0 → Piece → ℕ → List ℕ → Type 0
+FillsPiece files volume info row none_failed piece from out = IsCertain files volume info row none_failed
+    → (i : ℕ) → i < piece.length → slice_index out (from + i)
     ≡ value_through (known_at info.geometry.ratio (files_of (contents files) volume) (piece.at + i)) piece.shard
 
 -- the data shards by the codewords of those that stand
@@ -31,9 +30,9 @@ abbrev pub shards_by : Files → ℕ → Info → List (List ℕ)
 shards_by files volume info =
     data_shards info.geometry.ratio (files_of (contents files) volume) (shard_length info.geometry info.dat_size)
 
--- Where they are of one code, the bytes are those of these pieces, one after the other.
-abbrev pub FillsPieces : Files → ℕ → Info → List Piece → List ℕ → Type 0
-FillsPieces files volume info pieces out = HasOneCode files volume info
+-- Where it is, the bytes are those of these pieces, one after the other.
+abbrev pub FillsPieces : Files → ℕ → Info → Row → Type 0 → List Piece → List ℕ → Type 0
+FillsPieces files volume info row none_failed pieces out = IsCertain files volume info row none_failed
     → out ≡ pieces_of (shards_by files volume info) pieces
 
 -- what stands before a place is as it was
@@ -58,9 +57,3 @@ pub record TakesParts (info : Info) (row : Row) (offset count : ℕ) (old new : 
   pub pieces : List Piece
   pub located : AreLocated info.geometry info.dat_size offset count pieces
   pub takes : TakesReads (parts_of pieces) info row old new
-
--- ---- faults
-
--- The faults rose of the server that is told in the end, where they had of the one that was told at first.
-abbrev pub StaysBlamed : Option ℕ → Option ℕ → Counts → Counts → Type 0
-StaysBlamed first last start end = (old : Counts) → IsLater old start → IsBlamed first old start → IsBlamed last old end

@@ -1,10 +1,13 @@
 // The same bytes of as many shards as give all others.
-ghost use Rattle.std.specs.Prelude.{◌≡◌, ◌⊎◌, ◌<◌, ◌≤◌, ◌+◌, ◌*◌, IsTrue, Some, None, length, map, take, IsErr, OnOk, slice_index, ℕ};
+ghost use Rattle.std.specs.Prelude.{◌≡◌, ◌⊎◌, ◌<◌, ◌≤◌, ◌+◌, ◌*◌, ℕ, IsTrue, Some, length, map, take, IsErr, OnOk, slice_index};
 ghost use Rattle.std.specs.String.{string_bytes};
 ghost use Rattle.site_model.specs.Disk.{bytes_of};
-ghost use Rattle.site_model.specs.Counts.{Counts, Calls, CountsRead, IsLater, TakesCalls, widest_piece};
+ghost use Rattle.site_model.specs.Counts.{Counts, IsLater, TakesCalls, widest_piece};
 ghost use Rattle.world_model.specs.Ratios.{data_count, parity_count};
-ghost use Rattle.degraded_read.specs.Gathering.{AreNames, HasEnough, HasGathered, HoldRange, IsBlamed, OnServers, reads_of, standing_in};
+ghost use Rattle.degraded_read.specs.Gathering.{AreNames, AreNumbers, HasEnough, HasGathered, HoldRange};
+ghost use Rattle.degraded_read.specs.Gathering.{OnServers, reads_of, standing_in};
+ghost use Rattle.degraded_read.specs.Ranges.{IsKeptBefore};
+ghost use Rattle.degraded_read.specs.Reads.{Reads, ReadsOnce, StaysBlamed};
 
 use shard_table::{Places, ROOM};
 use site_model::{Failed, Site};
@@ -40,16 +43,11 @@ pub(crate) fn gather<T: Site>(
         → HasEnough (data_count ratio) (data_count ratio + parity_count ratio) (IsTrue T.tells)
         (T.disk site.old).files volume places.now at size old (T.counts site.new)
         (take result.count result.have) result.failed room.new }
-    ensures blamed { (old : Counts) → IsLater old (T.counts site.old)
-        → IsBlamed failed old (T.counts site.old) → IsBlamed result.failed old (T.counts site.new) }
-    ensures kept { result.failed ≡ None → failed ≡ None }
-    ensures count { result.count ≤ data_count ratio }
-    ensures numbers { length result.have ≡ 16 }
-    ensures same { IsTrue T.tells → T.disk site.new ≡ T.disk site.old }
-    ensures calls { TakesCalls (length (standing_in places.now (data_count ratio + parity_count ratio)))
-        size (T.counts site.old) (T.counts site.new) }
-    ensures runs { Calls T.counts T.servers site.old site.new (λ s. ⊥) }
-    ensures size { length room.new ≡ length room.old }
+    ensures blamed { StaysBlamed failed result.failed (T.counts site.old) (T.counts site.new) }
+    ensures numbers { AreNumbers (data_count ratio) result.count result.have }
+    ensures reads { Reads (IsTrue T.tells) T.disk T.counts T.servers
+        (TakesCalls (length (standing_in places.now (data_count ratio + parity_count ratio))) size)
+        site.old site.new (λ s. ⊥) }
 {
     let mut so_far = Gathered {
         have: [0; ROOM],
@@ -101,16 +99,11 @@ fn gather_one<T: Site>(
         (T.counts site.old) shard (take so_far.old.count so_far.old.have) so_far.old.failed room.old
         → HasGathered (IsTrue T.tells) (T.disk site.old).files volume places.now at size old
         (T.counts site.new) (shard + 1) (take so_far.new.count so_far.new.have) so_far.new.failed room.new }
-    ensures blamed { (old : Counts) → IsLater old (T.counts site.old)
-        → IsBlamed so_far.old.failed old (T.counts site.old)
-        → IsBlamed so_far.new.failed old (T.counts site.new) }
-    ensures kept { so_far.new.failed ≡ None → so_far.old.failed ≡ None }
-    ensures numbers { length so_far.new.have ≡ 16 }
-    ensures at_most { so_far.new.count ≤ so_far.old.count + 1 }
-    ensures same { IsTrue T.tells → T.disk site.new ≡ T.disk site.old }
-    ensures calls { TakesCalls (reads_of places.now shard) size (T.counts site.old) (T.counts site.new) }
-    ensures runs { Calls T.counts T.servers site.old site.new (λ s. ⊥) }
-    ensures size { length room.new ≡ length room.old }
+    ensures blamed { StaysBlamed so_far.old.failed so_far.new.failed
+        (T.counts site.old) (T.counts site.new) }
+    ensures numbers { AreNumbers (so_far.old.count + 1) so_far.new.count so_far.new.have }
+    ensures reads { Reads (IsTrue T.tells) T.disk T.counts T.servers
+        (TakesCalls (reads_of places.now shard) size) site.old site.new (λ s. ⊥) }
 {
     let Some(server) = places[usize::from(shard)] else {
         return;
@@ -142,11 +135,9 @@ pub(crate) fn read_into<T: Site>(
     requires room { from + size ≤ length room.old }
     ensures bytes { OnOk result (IsTrue T.tells → (i : ℕ) → i < size → slice_index room.new (from + i)
         ≡ slice_index (bytes_of ((T.disk site.old).files (server, name.now))) (at + i)) }
-    ensures before { (i : ℕ) → i < from → slice_index room.new i ≡ slice_index room.old i }
-    ensures same { IsTrue T.tells → T.disk site.new ≡ T.disk site.old }
-    ensures counts { CountsRead server size (T.counts site.old) (T.counts site.new) (IsErr result) }
-    ensures servers { T.servers site.new ≡ T.servers site.old }
-    ensures size { length room.new ≡ length room.old }
+    ensures before { IsKeptBefore from room.old room.new }
+    ensures reads { ReadsOnce (IsTrue T.tells) T.disk T.counts T.servers server size site.old site.new
+        (IsErr result) }
 {
     site.read(server, name, at, &mut room[from..from + size])
 }

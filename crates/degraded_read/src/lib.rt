@@ -4,12 +4,15 @@
 //! as many other shards as the volume has data shards, the lowest first.
 #![tactic(auto)]
 
+mod fault;
 mod gathering;
 mod ranges;
 mod reader;
 mod reading;
 mod restoring;
 
+pub use fault::ReadFault;
+pub use ranges::read_range;
 pub use reader::{PART, Reader};
 
 #[cfg(test)]

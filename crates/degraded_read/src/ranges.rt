@@ -1,18 +1,21 @@
 // A range of a data file: the pieces of its shards, one after the other, each in parts.
-ghost use Rattle.std.specs.Prelude.{◌≡◌, ◌<◌, ◌≤◌, ◌+◌, ◌*◌, ◌^◌, ℕ, IsTrue, IfErr, IsErrOf, OnOk, Some, length};
+ghost use Rattle.std.specs.Prelude.{◌≡◌, ◌<◌, ◌≤◌, ◌+◌, ◌^◌, ℕ, IsTrue, IfErr, IsErrOf, None, OnOk, length};
 ghost use Rattle.std.specs.List.{AllByRecursion, sum_by};
 ghost use Rattle.world_model.specs.Sizes.{max_dat};
-ghost use Rattle.site_model.specs.Counts.{Calls, Counts, IsLater};
 ghost use Rattle.stripe_layout.specs.Pieces.{IsPiece};
 ghost use Rattle.stripe_layout.specs.Stripes.{GeometryInRange, shard_length};
 ghost use Rattle.shard_table.specs.Table.{row_of};
-ghost use Rattle.degraded_read.specs.Reading.{HasEnoughShards, HasFewReliable, HasPlaces};
-ghost use Rattle.degraded_read.specs.Ranges.{FillsPiece, FillsPieces, GivesRange, IsKeptBefore, StaysBlamed};
+ghost use Rattle.degraded_read.specs.declared.fault.ReadFault.{ReadFault};
+ghost use Rattle.degraded_read.specs.Reading.{HasEnoughShards, HasPlaces, NoneRose};
+ghost use Rattle.degraded_read.specs.Ranges.{FillsPiece, FillsPieces, GivesRange, IsKeptBefore};
 ghost use Rattle.degraded_read.specs.Ranges.{TakesParts, TakesReads, parts_in, parts_of};
+ghost use Rattle.degraded_read.specs.Reads.{FailsBy, IsFew, Reads};
 
+use crate::ReadFault;
 use crate::reader::{PART, Reader};
 use shard_table::ShardTable;
 use site_model::{DeviceFault, Site};
+use std::alloc::Global;
 use stripe_layout::pieces::Pieces;
 use stripe_layout::{Info, Piece};
 
@@ -35,14 +38,13 @@ impl Reader {
         requires dat_size { info.now.dat_size ≤ max_dat }
         requires range { offset + length out.old ≤ info.now.dat_size }
         ensures range { OnOk result (IsTrue T.tells
-            → GivesRange (T.disk site.old).files self.old.volume info.now offset out.new) }
-        ensures few { IfErr result (λ _. HasFewReliable info.now (row_of table.now self.old.volume)
+            → GivesRange (T.disk site.old).files self.old.volume info.now (row_of table.now self.old.volume)
+            (NoneRose (T.counts site.old) (T.counts site.new)) offset out.new) }
+        ensures few { IfErr result (λ _. IsFew info.now.geometry.ratio (row_of table.now self.old.volume)
             (T.counts site.old) (T.counts site.new)) }
-        ensures same { IsTrue T.tells → T.disk site.new ≡ T.disk site.old }
-        ensures calls { TakesParts info.now (row_of table.now self.old.volume) offset (length out.old)
-            (T.counts site.old) (T.counts site.new) }
-        ensures runs { Calls T.counts T.servers site.old site.new
-            (λ s. IsErrOf result (record { server = s })) }
+        ensures reads { Reads (IsTrue T.tells) T.disk T.counts T.servers
+            (TakesParts info.now (row_of table.now self.old.volume) offset (length out.old))
+            site.old site.new (λ s. IsErrOf result (record { server = s })) }
         ensures volume { self.new.volume ≡ self.old.volume }
     {
         let pieces = info
@@ -68,16 +70,15 @@ impl Reader {
         requires fits { shard_length info.now.geometry info.now.dat_size < 2 ^ 64 }
         requires within { sum_by (λ p. p.length) pieces ≡ length out.old }
         ensures pieces { OnOk result (IsTrue T.tells
-            → FillsPieces (T.disk site.old).files self.old.volume info.now pieces out.new) }
-        ensures few { IfErr result (λ _. HasFewReliable info.now (row_of table.now self.old.volume)
+            → FillsPieces (T.disk site.old).files self.old.volume info.now
+            (row_of table.now self.old.volume) (NoneRose (T.counts site.old) (T.counts site.new))
+            pieces out.new) }
+        ensures few { IfErr result (λ _. IsFew info.now.geometry.ratio (row_of table.now self.old.volume)
             (T.counts site.old) (T.counts site.new)) }
-        ensures same { IsTrue T.tells → T.disk site.new ≡ T.disk site.old }
-        ensures calls { TakesReads (parts_of pieces) info.now (row_of table.now self.old.volume)
-            (T.counts site.old) (T.counts site.new) }
-        ensures runs { Calls T.counts T.servers site.old site.new
-            (λ s. IsErrOf result (record { server = s })) }
+        ensures reads { Reads (IsTrue T.tells) T.disk T.counts T.servers
+            (TakesReads (parts_of pieces) info.now (row_of table.now self.old.volume))
+            site.old site.new (λ s. IsErrOf result (record { server = s })) }
         ensures volume { self.new.volume ≡ self.old.volume }
-        ensures size { length out.new ≡ length out.old }
     {
         let mut failed = None;
         let mut done = 0;
@@ -108,18 +109,15 @@ impl Reader {
         requires fits { shard_length info.now.geometry info.now.dat_size < 2 ^ 64 }
         requires within { from + piece.length ≤ length out.old }
         ensures piece { OnOk result (IsTrue T.tells
-            → FillsPiece (T.disk site.old).files self.old.volume info.now piece from out.new) }
+            → FillsPiece (T.disk site.old).files self.old.volume info.now (row_of table.now self.old.volume)
+            (failed.new ≡ None) piece from out.new) }
         ensures before { IsKeptBefore from out.old out.new }
-        ensures blamed { StaysBlamed failed.old failed.new (T.counts site.old) (T.counts site.new) }
-        ensures told { IfErr result (λ fault. failed.new ≡ Some fault.server) }
-        ensures few { IfErr result (λ _. (old : Counts) → IsLater old (T.counts site.old)
-            → HasFewReliable info.now (row_of table.now self.old.volume) old (T.counts site.new)) }
-        ensures same { IsTrue T.tells → T.disk site.new ≡ T.disk site.old }
-        ensures calls { TakesReads (parts_in piece.length) info.now (row_of table.now self.old.volume)
-            (T.counts site.old) (T.counts site.new) }
-        ensures runs { Calls T.counts T.servers site.old site.new (λ s. ⊥) }
+        ensures fails { FailsBy info.now.geometry.ratio (row_of table.now self.old.volume) result
+            failed.old failed.new (T.counts site.old) (T.counts site.new) }
+        ensures reads { Reads (IsTrue T.tells) T.disk T.counts T.servers
+            (TakesReads (parts_in piece.length) info.now (row_of table.now self.old.volume))
+            site.old site.new (λ s. ⊥) }
         ensures volume { self.new.volume ≡ self.old.volume }
-        ensures size { length out.new ≡ length out.old }
     {
         let count = piece.length as usize;
         let mut done = 0;
@@ -135,4 +133,40 @@ impl Reader {
         }
         Ok(())
     }
+}
+
+/// Reads a range of the volume's data file, as `Reader::read_range` does, by a reader of its own. Where there is no
+/// memory for that, nothing is read.
+pub fn read_range<T: Site>(
+    alloc: Global,
+    site: &mut T,
+    table: &ShardTable,
+    volume: u32,
+    info: &Info,
+    offset: u64,
+    out: &mut [u8],
+) -> Result<(), ReadFault>
+    requires servers { table.now.servers ≡ T.servers site.old }
+    requires placed { IsTrue T.tells
+        → HasPlaces (T.disk site.old).files volume info.now (row_of table.now volume) }
+    requires enough { HasEnoughShards info.now (row_of table.now volume) }
+    requires geometry { GeometryInRange info.now.geometry }
+    requires dat_size { info.now.dat_size ≤ max_dat }
+    requires range { offset + length out.old ≤ info.now.dat_size }
+    ensures range { OnOk result (IsTrue T.tells
+        → GivesRange (T.disk site.old).files volume info.now (row_of table.now volume)
+        (NoneRose (T.counts site.old) (T.counts site.new)) offset out.new) }
+    ensures few { (server : ℕ) → IsErrOf result (ReadFault.Fault (record { server = server }))
+        → IsFew info.now.geometry.ratio (row_of table.now volume) (T.counts site.old) (T.counts site.new) }
+    ensures reads { Reads (IsTrue T.tells) T.disk T.counts T.servers
+        (TakesParts info.now (row_of table.now volume) offset (length out.old))
+        site.old site.new (λ s. IsErrOf result (ReadFault.Fault (record { server = s }))) }
+    ensures memory { IsErrOf result ReadFault.Memory → site.new ≡ site.old }
+{
+    let pieces = info
+        .geometry
+        .locate(info.dat_size, offset, out.len() as u64);
+    let mut reader = Reader::new(alloc, volume)?;
+    reader.read_pieces(site, table, info, pieces, out)?;
+    Ok(())
 }

@@ -1,12 +1,13 @@
 // Reads of a volume's shards, with the names and the room that they need.
-ghost use Rattle.std.specs.Prelude.{◌≡◌, ◌<◌, ◌≤◌, ◌+◌, IsTrue, IfErr, IsErrOf, IfOk, OnOk, Some, length, map};
+ghost use Rattle.std.specs.Prelude.{◌≡◌, ◌<◌, ◌≤◌, ◌+◌, IsTrue, IfErr, IsErrOf, IfOk, OnOk, None, length, map};
 ghost use Rattle.std.specs.String.{string_bytes};
-ghost use Rattle.site_model.specs.Counts.{Calls, Counts, IsLater, TakesCalls};
+ghost use Rattle.site_model.specs.Counts.{TakesCalls};
 ghost use Rattle.stripe_layout.specs.Stripes.{shard_length, shards_in_all};
 ghost use Rattle.shard_table.specs.Table.{row_of};
 ghost use Rattle.degraded_read.specs.Gathering.{AreNames};
-ghost use Rattle.degraded_read.specs.Reading.{GivesPart, HasEnoughShards, HasFewReliable, HasPlaces, shards_standing};
-ghost use Rattle.degraded_read.specs.Ranges.{FillsPiece, IsKeptBefore, StaysBlamed};
+ghost use Rattle.degraded_read.specs.Reading.{GivesPart, HasEnoughShards, HasPlaces, NoneRose, shards_standing};
+ghost use Rattle.degraded_read.specs.Ranges.{FillsPiece, IsKeptBefore};
+ghost use Rattle.degraded_read.specs.Reads.{FailsBy, IsFew, Reads};
 
 use crate::reading::read_part;
 use file_names::{FileName, Kind, spell};
@@ -83,14 +84,13 @@ impl Reader {
         requires range { at + length out.old ≤ shard_length info.now.geometry info.now.dat_size }
         requires part { length out.old ≤ 65536 }
         ensures part { OnOk result (IsTrue T.tells
-            → GivesPart (T.disk site.old).files self.old.volume info.now shard at out.new) }
-        ensures few { IfErr result (λ _. HasFewReliable info.now (row_of table.now self.old.volume)
+            → GivesPart (T.disk site.old).files self.old.volume info.now (row_of table.now self.old.volume)
+            (NoneRose (T.counts site.old) (T.counts site.new)) shard at out.new) }
+        ensures few { IfErr result (λ _. IsFew info.now.geometry.ratio (row_of table.now self.old.volume)
             (T.counts site.old) (T.counts site.new)) }
-        ensures same { IsTrue T.tells → T.disk site.new ≡ T.disk site.old }
-        ensures calls { TakesCalls (shards_standing info.now (row_of table.now self.old.volume))
-            (length out.old) (T.counts site.old) (T.counts site.new) }
-        ensures runs { Calls T.counts T.servers site.old site.new
-            (λ s. IsErrOf result (record { server = s })) }
+        ensures reads { Reads (IsTrue T.tells) T.disk T.counts T.servers
+            (TakesCalls (shards_standing info.now (row_of table.now self.old.volume)) (length out.old))
+            site.old site.new (λ s. IsErrOf result (record { server = s })) }
         ensures volume { self.new.volume ≡ self.old.volume }
     {
         let mut failed = None;
@@ -129,18 +129,15 @@ impl Reader {
         requires part { part.length ≤ 65536 }
         requires within { from + part.length ≤ length out.old }
         ensures part { OnOk result (IsTrue T.tells
-            → FillsPiece (T.disk site.old).files self.old.volume info.now part from out.new) }
+            → FillsPiece (T.disk site.old).files self.old.volume info.now (row_of table.now self.old.volume)
+            (failed.new ≡ None) part from out.new) }
         ensures before { IsKeptBefore from out.old out.new }
-        ensures blamed { StaysBlamed failed.old failed.new (T.counts site.old) (T.counts site.new) }
-        ensures told { IfErr result (λ fault. failed.new ≡ Some fault.server) }
-        ensures few { IfErr result (λ _. (old : Counts) → IsLater old (T.counts site.old)
-            → HasFewReliable info.now (row_of table.now self.old.volume) old (T.counts site.new)) }
-        ensures same { IsTrue T.tells → T.disk site.new ≡ T.disk site.old }
-        ensures calls { TakesCalls (shards_standing info.now (row_of table.now self.old.volume))
-            part.length (T.counts site.old) (T.counts site.new) }
-        ensures runs { Calls T.counts T.servers site.old site.new (λ s. ⊥) }
+        ensures fails { FailsBy info.now.geometry.ratio (row_of table.now self.old.volume) result
+            failed.old failed.new (T.counts site.old) (T.counts site.new) }
+        ensures reads { Reads (IsTrue T.tells) T.disk T.counts T.servers
+            (TakesCalls (shards_standing info.now (row_of table.now self.old.volume)) part.length)
+            site.old site.new (λ s. ⊥) }
         ensures volume { self.new.volume ≡ self.old.volume }
-        ensures size { length out.new ≡ length out.old }
     {
         let end = from + part.length as usize;
         read_part(

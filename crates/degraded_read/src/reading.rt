@@ -1,12 +1,13 @@
 // A part of a shard, from the shard itself or from others.
-ghost use Rattle.std.specs.Prelude.{◌≡◌, ◌<◌, ◌≤◌, ◌+◌, ◌*◌, IsTrue, IfErr, IfSome, OnOk, None, Some, slice_set, length, map};
+ghost use Rattle.std.specs.Prelude.{◌≡◌, ◌<◌, ◌≤◌, ◌+◌, ◌*◌, IsTrue, IfSome, OnOk, None, slice_set, length, map};
 ghost use Rattle.std.specs.String.{string_bytes};
-ghost use Rattle.site_model.specs.Counts.{Counts, Calls, IsLater, TakesCalls, widest_piece};
+ghost use Rattle.site_model.specs.Counts.{TakesCalls, widest_piece};
 ghost use Rattle.world_model.specs.Ratios.{data_count};
 ghost use Rattle.stripe_layout.specs.Stripes.{shard_length, shards_in_all};
-ghost use Rattle.shard_table.specs.Table.{place_in, row_of};
-ghost use Rattle.degraded_read.specs.Gathering.{AreNames, IsBlamed};
-ghost use Rattle.degraded_read.specs.Reading.{GivesPart, HasEnoughShards, HasFewReliable, HasPlaces, shards_standing};
+ghost use Rattle.shard_table.specs.Table.{row_of};
+ghost use Rattle.degraded_read.specs.Gathering.{AreNames};
+ghost use Rattle.degraded_read.specs.Reading.{GivesPart, HasEnoughShards, HasPlaces, IsOwnPlace, shards_standing};
+ghost use Rattle.degraded_read.specs.Reads.{FailsBy, Reads};
 
 use crate::gathering::{lower, read_into};
 use crate::restoring::restored;
@@ -28,7 +29,7 @@ fn without(places: &Places, shard: u8) -> Places
 /// The server of a shard that holds data.
 fn own_place(places: &Places, ratio: Ratio, shard: u8) -> Option<u32>
     requires { shard < 16 }
-    ensures { IfSome result (λ server. place_in places.now shard ≡ Some server) }
+    ensures { IfSome result (λ server. IsOwnPlace places.now ratio shard server) }
 {
     if shard < ratio.data_count() {
         places[usize::from(shard)]
@@ -60,20 +61,16 @@ pub(crate) fn read_part<T: Site>(
     requires range { at + length out.old ≤ shard_length info.now.geometry info.now.dat_size }
     requires narrow { length out.old ≤ widest_piece }
     requires room { data_count info.now.geometry.ratio * length out.old ≤ length room.old }
-    ensures part { OnOk result (IsTrue T.tells
-        → GivesPart (T.disk site.old).files volume info.now shard at out.new) }
-    ensures blamed { (old : Counts) → IsLater old (T.counts site.old)
-        → IsBlamed failed.old old (T.counts site.old) → IsBlamed failed.new old (T.counts site.new) }
-    ensures told { IfErr result (λ fault. failed.new ≡ Some fault.server) }
-    ensures few { IfErr result (λ _. (old : Counts) → IsLater old (T.counts site.old)
-        → HasFewReliable info.now (row_of table.now volume) old (T.counts site.new)) }
-    ensures same { IsTrue T.tells → T.disk site.new ≡ T.disk site.old }
-    ensures calls { TakesCalls (shards_standing info.now (row_of table.now volume)) (length out.old)
+    ensures part { OnOk result (IsTrue T.tells → GivesPart (T.disk site.old).files volume info.now
+        (row_of table.now volume) (failed.new ≡ None) shard at out.new) }
+    ensures fails { FailsBy info.now.geometry.ratio (row_of table.now volume) result failed.old failed.new
         (T.counts site.old) (T.counts site.new) }
-    ensures runs { Calls T.counts T.servers site.old site.new (λ s. ⊥) }
-    ensures size { length out.new ≡ length out.old }
-    ensures room { length room.new ≡ length room.old }
+    ensures reads { Reads (IsTrue T.tells) T.disk T.counts T.servers
+        (TakesCalls (shards_standing info.now (row_of table.now volume)) (length out.old))
+        site.old site.new (λ s. ⊥) }
 {
+    // Asked for what it promises of files: they hold bytes, so that as many as give the others are of some code.
+    let _servers = site.servers();
     let ratio = info.geometry.ratio;
     let row = table.row(volume);
     let Some(server) = own_place(row, ratio, shard) else {

@@ -12,7 +12,7 @@ mod standing;
 
 use crate::reader::names_of;
 use crate::tests::standing::{are_placed, count_placed};
-use crate::{PART, Reader};
+use crate::{PART, ReadFault, Reader, read_range};
 use shard_table::ShardTable;
 use site_mem::MemSite;
 use site_model::DeviceFault;
@@ -37,6 +37,8 @@ const NAMES: [&str; 5] = ["7.ec00", "7.ec01", "7.ec02", "7.ec03", "7.ec04"];
 enum Data {
     /// One needle.
     Needle,
+    /// The same, and the first byte of this shard isn't what the others give.
+    Spoilt(usize),
     /// A row of large blocks of two parts each.
     TwoParts,
 }
@@ -83,7 +85,7 @@ fn info(data: Data) -> Info
     ensures dat_size { result.dat_size ≤ 2 ^ 35 }
 {
     let (dat_size, large) = match data {
-        Data::Needle => (56, 16),
+        Data::Needle | Data::Spoilt(_) => (56, 16),
         Data::TwoParts => (393_240, 131_072),
     };
     Info {
@@ -101,6 +103,13 @@ fn shard_of(alloc: Global, data: Data, shard: usize) -> Result<Vec<u8>, AllocErr
 {
     match data {
         Data::Needle => SHARDS[shard].to_vec(alloc),
+        Data::Spoilt(spoilt) => {
+            let mut bytes = SHARDS[shard];
+            if shard == spoilt {
+                bytes[0] ^= 0xff;
+            }
+            bytes.to_vec(alloc)
+        }
         Data::TwoParts => {
             let mut bytes = vec![in alloc; FIRST[shard]; PART]?;
             let rest = vec![in alloc; REST[shard]; PART + 8]?;
@@ -129,6 +138,10 @@ impl Set {
     /// How many of the volume's shards are in it.
     fn count(self) -> usize {
         (0..COUNT).filter(|&number| self.has(number)).count()
+    }
+
+    fn without(self, others: Set) -> Set {
+        Set(self.0 & !others.0)
     }
 
     fn lowest(self) -> Option<u8> {
@@ -206,6 +219,20 @@ impl Running {
         self.reader
             .read_range(&mut self.site, &self.table, &info, offset, out)
     }
+
+    /// Reads the data file from its start on, without the reader.
+    fn read_at_once(
+        &mut self,
+        rt: &impl Abort,
+        alloc: Global,
+        out: &mut [u8],
+    ) -> Result<(), ReadFault> {
+        let info = info(self.data);
+        let size = info.geometry.shard_length(info.dat_size);
+        self.see_shards(rt, size);
+        assert!(rt; out.len() as u64 <= info.dat_size);
+        read_range(alloc, &mut self.site, &self.table, VOLUME, &info, 0, out)
+    }
 }
 
 /// Five servers, with each shard of the set at the server of its number.
@@ -250,21 +277,32 @@ fn table_of(alloc: Global, standing: Set) -> Result<ShardTable, AllocError>
 
 #[test]
 fn each_shard_and_range_is_read_from_any_three(rt: HostRuntime) -> Result<(), Fail> {
-    for bits in 0..SETS {
-        let standing = Set(bits);
-        if standing.count() < ENOUGH {
-            continue;
+    for standing in 0..SETS {
+        for failing in 0..SETS {
+            let (standing, failing) = (Set(standing), Set(failing));
+            let is_within = failing.without(standing).count() == 0;
+            if is_within && standing.without(failing).count() >= ENOUGH {
+                see_all(&rt, rt.alloc(), standing, failing)?;
+            }
         }
-        let mut running = Running::new(rt.alloc(), Data::Needle, standing, NONE)?;
-        for shard in 0..COUNT {
-            let mut out = [0; LENGTH];
-            let read = running.read_shard(&rt, shard, 0, &mut out);
-            assert_eq!(rt; read, Ok(()), "{standing:?}");
-            assert_eq!(rt; out, SHARDS[usize::from(shard)], "{standing:?}");
-        }
-        see_ranges(&rt, &mut running)?;
     }
     Ok(())
+}
+
+/// Sees that these shards, of which some fail, give each shard and each range.
+fn see_all(rt: &impl Abort, alloc: Global, standing: Set, failing: Set) -> Result<(), Fail> {
+    let mut running = Running::new(alloc, Data::Needle, standing, failing)?;
+    for shard in 0..COUNT {
+        let mut out = [0; LENGTH];
+        let read = running.read_shard(rt, shard, 0, &mut out);
+        assert_eq!(rt; read, Ok(()), "{standing:?}, {failing:?}");
+        assert_eq!(rt;
+            out,
+            SHARDS[usize::from(shard)],
+            "{standing:?}, {failing:?}"
+        );
+    }
+    see_ranges(rt, &mut running)
 }
 
 /// Sees what is read from each place of the data file on, to its end and 9 bytes.
@@ -338,6 +376,57 @@ fn a_part_is_read_by_no_more_reads_than_it_takes(rt: HostRuntime) -> Result<(), 
     running.read_shard(&rt, 4, 2, &mut out)?;
     assert_eq!(rt; out, [0xb2, 0x98, 0x96, 0]);
     assert_eq!(rt; running.site.calls(), 4);
+    Ok(())
+}
+
+/// Sees the first byte of each shard, and of the data file where its shards have them.
+fn see_first_bytes(rt: &impl Abort, running: &mut Running, wanted: [u8; 5]) -> Result<(), Fail> {
+    for shard in 0..COUNT {
+        let mut out = [0; 1];
+        running.read_shard(rt, shard, 0, &mut out)?;
+        assert_eq!(rt; out, [wanted[usize::from(shard)]], "shard {shard}");
+    }
+    for (shard, offset) in [(0, 0), (1, 16), (2, 32)] {
+        let mut out = [0; 1];
+        running.read_range(rt, offset, &mut out)?;
+        assert_eq!(rt; out, [wanted[shard]], "from {offset}");
+    }
+    Ok(())
+}
+
+// Another program computes the bytes, from the three lowest shards that stand.
+#[test]
+fn where_shards_disagree_the_three_lowest_give_all(rt: HostRuntime) -> Result<(), Fail> {
+    let alloc = rt.alloc();
+    let mut parity = Running::new(alloc, Data::Spoilt(3), ALL, NONE)?;
+    see_first_bytes(&rt, &mut parity, [3, 0, 0x35, 0x36, 0xaf])?;
+    let mut degraded = Running::new(alloc, Data::Spoilt(3), Set(0b11110), NONE)?;
+    see_first_bytes(&rt, &mut degraded, [0xfc, 0, 0x35, 0xc9, 0xc3])?;
+    let mut highest = Running::new(alloc, Data::Spoilt(4), Set(0b11011), NONE)?;
+    see_first_bytes(&rt, &mut highest, [3, 0, 0x35, 0x36, 0xaf])?;
+    let mut direct = Running::new(alloc, Data::Spoilt(1), ALL, NONE)?;
+    see_first_bytes(&rt, &mut direct, [3, 0xff, 0x35, 0xc9, 4])
+}
+
+// Where the call gets no memory for a reader, nothing is read.
+#[test]
+fn a_range_is_read_without_a_reader(rt: HostRuntime) -> Result<(), Fail> {
+    let alloc = rt.alloc();
+    let mut running = Running::new(alloc, Data::Needle, Set(0b11101), NONE)?;
+    let mut out = [0; 56];
+    match running.read_at_once(&rt, alloc, &mut out) {
+        Err(ReadFault::Memory) => {
+            assert_eq!(rt; running.site.calls(), 0);
+            assert!(rt; out == [0; 56]);
+        }
+        read => {
+            assert_eq!(rt; read, Ok(()));
+            assert!(rt; out == NEEDLE);
+        }
+    }
+    fail_reads(&mut running.site, Set(0b10100), 1);
+    let read = running.read_at_once(&rt, alloc, &mut out);
+    assert!(rt; read == Err(ReadFault::Memory) || read == Err(DeviceFault { server: 2 }.into()));
     Ok(())
 }
 

@@ -5,7 +5,8 @@ use Rattle.site_model.specs.Disk.{bytes_of}
 use Rattle.site_model.specs.Laws.Count.{later_read}
 use Rattle.shard_table.specs.Table.{place_in}
 use Rattle.degraded_read.specs.Gathering.{HasGathered, shard_at, shard_name}
-use Rattle.degraded_read.proofs.Steps.{absent_next, read_next, failed_next, blamed_later, blamed_next, none_of, name_is, one_more}
+use Rattle.degraded_read.proofs.Steps.{absent_next, read_next, failed_next, none_of, name_is, one_more}
+use Rattle.degraded_read.proofs.Blaming.{stays_same, stays_later, stays_next}
 use Rattle.degraded_read.proofs.gathering.gather_one.Goals as goal
 
 pub returns-in_default-clause-gathered : goal.returns-in_default-clause-gathered
@@ -34,7 +35,7 @@ returns-in-Ok-clause-gathered g c old before so_far =
     subst (λ have. HasGathered (IsTrue g.T.Site.tells) files c.args.volume c.args.places.now c.args.at c.args.size old (g.T.Site.counts c.read_into.new.site) (c.args.shard + 1) have c.args.so_far.now.failed c.read_into.new.room)
     (sym (one_more c.args.so_far.now.have c.args.so_far.now.count c.args.shard (omega (arith, c.requires.numbers, c.requires.count))))
     (read_next (IsTrue g.T.Site.tells) files c.args.volume c.args.places.now c.args.at c.args.size old (g.T.Site.counts c.args.site.now) (g.T.Site.counts c.read_into.new.site) c.args.shard have c.args.so_far.now.failed c.args.room.now c.read_into.new.room c.in-Some.server there
-    (later_read c.read_into.ensures.counts)
+    (later_read c.read_into.ensures.reads.counts_read)
     (λ i h. c.read_into.ensures.before i (subst (λ n. i < n * c.args.size) long h))
     (λ told i h. ap (λ n. slice_index c.read_into.new.room (n * c.args.size + i)) long ∙ c.in-Ok.ensures.bytes told i h ∙ ap (λ xs. slice_index xs (c.args.at + i)) (sym bytes))
     so_far)
@@ -45,8 +46,8 @@ returns-in-Err-clause-gathered g c old before so_far =
     let files = (g.T.Site.disk c.args.site.now).files in
     let have = take c.args.so_far.now.count c.args.so_far.now.have in
     let long : length (take c.args.so_far.now.count c.args.so_far.now.have) ≡ c.args.so_far.now.count = omega (arith, length-take c.args.so_far.now.count c.args.so_far.now.have, c.requires.numbers, c.requires.count) in
-    let later = later_read c.read_into.ensures.counts in
-    let risen = c.in-Err.ensures.counts.failed refl in
+    let later = later_read c.read_into.ensures.reads.counts_read in
+    let risen = c.in-Err.ensures.reads.counts_read.failed refl in
     failed_next (IsTrue g.T.Site.tells) files c.args.volume c.args.places.now c.args.at c.args.size old (g.T.Site.counts c.args.site.now) (g.T.Site.counts c.read_into.new.site) c.args.shard have c.args.so_far.now.failed c.args.room.now c.read_into.new.room c.in-Some.server c.lower.result there later
     risen
     (before.faults c.in-Some.server)
@@ -54,13 +55,13 @@ returns-in-Err-clause-gathered g c old before so_far =
     so_far
 
 pub returns-in_default-clause-blamed : goal.returns-in_default-clause-blamed
-returns-in_default-clause-blamed g c old before was = was
+returns-in_default-clause-blamed g c = stays_same c.args.so_far.now.failed (g.T.Site.counts c.args.site.now)
 
 pub returns-in-Ok-clause-blamed : goal.returns-in-Ok-clause-blamed
-returns-in-Ok-clause-blamed g c old before was =
-    blamed_later old (g.T.Site.counts c.args.site.now) (g.T.Site.counts c.read_into.new.site) c.args.so_far.now.failed (later_read c.read_into.ensures.counts) was
+returns-in-Ok-clause-blamed g c =
+    stays_later c.args.so_far.now.failed (g.T.Site.counts c.args.site.now) (g.T.Site.counts c.read_into.new.site) (later_read c.read_into.ensures.reads.counts_read)
 
 pub returns-in-Err-clause-blamed : goal.returns-in-Err-clause-blamed
-returns-in-Err-clause-blamed g c old before was =
-    blamed_next old (g.T.Site.counts c.args.site.now) (g.T.Site.counts c.read_into.new.site) c.args.so_far.now.failed c.in-Some.server c.lower.result before
-    (later_read c.read_into.ensures.counts) (c.in-Err.ensures.counts.failed refl) was c.lower.ensures
+returns-in-Err-clause-blamed g c =
+    stays_next c.args.so_far.now.failed c.in-Some.server c.lower.result (g.T.Site.counts c.args.site.now) (g.T.Site.counts c.read_into.new.site)
+    (later_read c.read_into.ensures.reads.counts_read) (c.in-Err.ensures.reads.counts_read.failed refl) c.lower.ensures

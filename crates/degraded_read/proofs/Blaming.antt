@@ -7,7 +7,7 @@ use Rattle.site_model.specs.declared.error.DeviceFault.{DeviceFault}
 use Rattle.site_model.specs.Disk.{Disk}
 use Rattle.world_model.specs.declared.types.Ratio.{Ratio}
 use Rattle.shard_table.specs.Table.{Row}
-use Rattle.degraded_read.specs.Reads.{FailsBy, IsBlamed, IsFew, Reads, StaysBlamed}
+use Rattle.degraded_read.specs.Reads.{FailsBy, IsBlamed, IsFew, OnlyReads, StaysBlamed}
 use Rattle.degraded_read.proofs.Filling.{on_err}
 use Rattle.degraded_read.specs.Reading.{NoneRose}
 
@@ -79,7 +79,7 @@ module _ {A : Type 0} {r : Ratio} {row : Row} {result : Result A DeviceFault} wh
 
   -- the server that is told failed
   pub reads_told : {B : Type 0} {tells : Type 0} {disk : B → Disk} {counts : B → Counts} {count : B → ℕ} {P : Counts → Counts → Type 0} {old new : B} {last : Option ℕ} → FailsBy r row result None last (counts old) (counts new)
-      → Reads tells disk counts count P old new (λ s. ⊥) → Reads tells disk counts count P old new (λ s. result ≡ Err (record { server = s }))
+      → OnlyReads tells disk counts count P old new (λ s. ⊥) → OnlyReads tells disk counts count P old new (λ s. result ≡ Err (record { server = s }))
   reads_told {last = last} fails did = record {
     same = did.same;
     calls = did.calls;

@@ -9,7 +9,7 @@ use Rattle.shard_table.specs.Table.{Row}
 use Rattle.degraded_read.specs.Gathering.{reliable}
 
 -- Nothing changes on the disk, so many calls are made, and the faults rose of each server that is told.
-pub record Reads {A : Type 0} (tells : Type 0) (disk : A → Disk) (counts : A → Counts) (count : A → ℕ) (takes : Counts → Counts → Type 0) (old new : A) (is_told : ℕ → Type 0) : Type 0 where
+pub record OnlyReads {A : Type 0} (tells : Type 0) (disk : A → Disk) (counts : A → Counts) (count : A → ℕ) (takes : Counts → Counts → Type 0) (old new : A) (is_told : ℕ → Type 0) : Type 0 where
   pub same : tells → disk new ≡ disk old
   pub calls : takes (counts old) (counts new)
   pub runs : Calls counts count old new is_told

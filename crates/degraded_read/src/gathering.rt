@@ -7,7 +7,7 @@ ghost use Rattle.world_model.specs.Ratios.{data_count, parity_count};
 ghost use Rattle.degraded_read.specs.Gathering.{AreNames, AreNumbers, HasEnough, HasGathered, HoldRange};
 ghost use Rattle.degraded_read.specs.Gathering.{OnServers, reads_of, standing_in};
 ghost use Rattle.degraded_read.specs.Ranges.{IsKeptBefore};
-ghost use Rattle.degraded_read.specs.Reads.{Reads, ReadsOnce, StaysBlamed};
+ghost use Rattle.degraded_read.specs.Reads.{OnlyReads, ReadsOnce, StaysBlamed};
 
 use shard_table::{Places, ROOM};
 use site_model::{Failed, Site};
@@ -45,7 +45,7 @@ pub(crate) fn gather<T: Site>(
         (take result.count result.have) result.failed room.new }
     ensures blamed { StaysBlamed failed result.failed (T.counts site.old) (T.counts site.new) }
     ensures numbers { AreNumbers (data_count ratio) result.count result.have }
-    ensures reads { Reads (IsTrue T.tells) T.disk T.counts T.servers
+    ensures reads { OnlyReads (IsTrue T.tells) T.disk T.counts T.servers
         (TakesCalls (length (standing_in places.now (data_count ratio + parity_count ratio))) size)
         site.old site.new (λ s. ⊥) }
 {
@@ -102,7 +102,7 @@ fn gather_one<T: Site>(
     ensures blamed { StaysBlamed so_far.old.failed so_far.new.failed
         (T.counts site.old) (T.counts site.new) }
     ensures numbers { AreNumbers (so_far.old.count + 1) so_far.new.count so_far.new.have }
-    ensures reads { Reads (IsTrue T.tells) T.disk T.counts T.servers
+    ensures reads { OnlyReads (IsTrue T.tells) T.disk T.counts T.servers
         (TakesCalls (reads_of places.now shard) size) site.old site.new (λ s. ⊥) }
 {
     let Some(server) = places[usize::from(shard)] else {

@@ -9,7 +9,7 @@ ghost use Rattle.degraded_read.specs.declared.fault.ReadFault.{ReadFault};
 ghost use Rattle.degraded_read.specs.Reading.{HasEnoughShards, HasPlaces, NoneRose};
 ghost use Rattle.degraded_read.specs.Ranges.{FillsPiece, FillsPieces, GivesRange, IsKeptBefore};
 ghost use Rattle.degraded_read.specs.Ranges.{TakesParts, TakesReads, parts_in, parts_of};
-ghost use Rattle.degraded_read.specs.Reads.{FailsBy, IsFew, Reads};
+ghost use Rattle.degraded_read.specs.Reads.{FailsBy, IsFew, OnlyReads};
 
 use crate::ReadFault;
 use crate::reader::{PART, Reader};
@@ -42,7 +42,7 @@ impl Reader {
             (NoneRose (T.counts site.old) (T.counts site.new)) offset out.new) }
         ensures few { IfErr result (λ _. IsFew info.now.geometry.ratio (row_of table.now self.old.volume)
             (T.counts site.old) (T.counts site.new)) }
-        ensures reads { Reads (IsTrue T.tells) T.disk T.counts T.servers
+        ensures reads { OnlyReads (IsTrue T.tells) T.disk T.counts T.servers
             (TakesParts info.now (row_of table.now self.old.volume) offset (length out.old))
             site.old site.new (λ s. IsErrOf result (record { server = s })) }
         ensures volume { self.new.volume ≡ self.old.volume }
@@ -75,7 +75,7 @@ impl Reader {
             pieces out.new) }
         ensures few { IfErr result (λ _. IsFew info.now.geometry.ratio (row_of table.now self.old.volume)
             (T.counts site.old) (T.counts site.new)) }
-        ensures reads { Reads (IsTrue T.tells) T.disk T.counts T.servers
+        ensures reads { OnlyReads (IsTrue T.tells) T.disk T.counts T.servers
             (TakesReads (parts_of pieces) info.now (row_of table.now self.old.volume))
             site.old site.new (λ s. IsErrOf result (record { server = s })) }
         ensures volume { self.new.volume ≡ self.old.volume }
@@ -114,7 +114,7 @@ impl Reader {
         ensures before { IsKeptBefore from out.old out.new }
         ensures fails { FailsBy info.now.geometry.ratio (row_of table.now self.old.volume) result
             failed.old failed.new (T.counts site.old) (T.counts site.new) }
-        ensures reads { Reads (IsTrue T.tells) T.disk T.counts T.servers
+        ensures reads { OnlyReads (IsTrue T.tells) T.disk T.counts T.servers
             (TakesReads (parts_in piece.length) info.now (row_of table.now self.old.volume))
             site.old site.new (λ s. ⊥) }
         ensures volume { self.new.volume ≡ self.old.volume }
@@ -135,8 +135,8 @@ impl Reader {
     }
 }
 
-/// Reads a range of the volume's data file, as `Reader::read_range` does, by a reader of its own. Where there is no
-/// memory for that, nothing is read.
+/// Reads a range of the volume's data file, as `Reader::read_range` does, by a reader of its own. Where there is
+/// no memory for that, nothing is read.
 pub fn read_range<T: Site>(
     alloc: Global,
     site: &mut T,
@@ -158,7 +158,7 @@ pub fn read_range<T: Site>(
         (NoneRose (T.counts site.old) (T.counts site.new)) offset out.new) }
     ensures few { (server : ℕ) → IsErrOf result (ReadFault.Fault (record { server = server }))
         → IsFew info.now.geometry.ratio (row_of table.now volume) (T.counts site.old) (T.counts site.new) }
-    ensures reads { Reads (IsTrue T.tells) T.disk T.counts T.servers
+    ensures reads { OnlyReads (IsTrue T.tells) T.disk T.counts T.servers
         (TakesParts info.now (row_of table.now volume) offset (length out.old))
         site.old site.new (λ s. IsErrOf result (ReadFault.Fault (record { server = s }))) }
     ensures memory { IsErrOf result ReadFault.Memory → site.new ≡ site.old }

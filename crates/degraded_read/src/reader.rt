@@ -7,7 +7,7 @@ ghost use Rattle.shard_table.specs.Table.{row_of};
 ghost use Rattle.degraded_read.specs.Gathering.{AreNames};
 ghost use Rattle.degraded_read.specs.Reading.{GivesPart, HasEnoughShards, HasPlaces, NoneRose, shards_standing};
 ghost use Rattle.degraded_read.specs.Ranges.{FillsPiece, IsKeptBefore};
-ghost use Rattle.degraded_read.specs.Reads.{FailsBy, IsFew, Reads};
+ghost use Rattle.degraded_read.specs.Reads.{FailsBy, IsFew, OnlyReads};
 
 use crate::reading::read_part;
 use file_names::{FileName, Kind, spell};
@@ -88,7 +88,7 @@ impl Reader {
             (NoneRose (T.counts site.old) (T.counts site.new)) shard at out.new) }
         ensures few { IfErr result (λ _. IsFew info.now.geometry.ratio (row_of table.now self.old.volume)
             (T.counts site.old) (T.counts site.new)) }
-        ensures reads { Reads (IsTrue T.tells) T.disk T.counts T.servers
+        ensures reads { OnlyReads (IsTrue T.tells) T.disk T.counts T.servers
             (TakesCalls (shards_standing info.now (row_of table.now self.old.volume)) (length out.old))
             site.old site.new (λ s. IsErrOf result (record { server = s })) }
         ensures volume { self.new.volume ≡ self.old.volume }
@@ -134,7 +134,7 @@ impl Reader {
         ensures before { IsKeptBefore from out.old out.new }
         ensures fails { FailsBy info.now.geometry.ratio (row_of table.now self.old.volume) result
             failed.old failed.new (T.counts site.old) (T.counts site.new) }
-        ensures reads { Reads (IsTrue T.tells) T.disk T.counts T.servers
+        ensures reads { OnlyReads (IsTrue T.tells) T.disk T.counts T.servers
             (TakesCalls (shards_standing info.now (row_of table.now self.old.volume)) part.length)
             site.old site.new (λ s. ⊥) }
         ensures volume { self.new.volume ≡ self.old.volume }

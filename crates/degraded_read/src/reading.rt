@@ -7,7 +7,7 @@ ghost use Rattle.stripe_layout.specs.Stripes.{shard_length, shards_in_all};
 ghost use Rattle.shard_table.specs.Table.{row_of};
 ghost use Rattle.degraded_read.specs.Gathering.{AreNames};
 ghost use Rattle.degraded_read.specs.Reading.{GivesPart, HasEnoughShards, HasPlaces, IsOwnPlace, shards_standing};
-ghost use Rattle.degraded_read.specs.Reads.{FailsBy, Reads};
+ghost use Rattle.degraded_read.specs.Reads.{FailsBy, OnlyReads};
 
 use crate::gathering::{lower, read_into};
 use crate::restoring::restored;
@@ -65,11 +65,12 @@ pub(crate) fn read_part<T: Site>(
         (row_of table.now volume) (failed.new ≡ None) shard at out.new) }
     ensures fails { FailsBy info.now.geometry.ratio (row_of table.now volume) result failed.old failed.new
         (T.counts site.old) (T.counts site.new) }
-    ensures reads { Reads (IsTrue T.tells) T.disk T.counts T.servers
+    ensures reads { OnlyReads (IsTrue T.tells) T.disk T.counts T.servers
         (TakesCalls (shards_standing info.now (row_of table.now volume)) (length out.old))
         site.old site.new (λ s. ⊥) }
 {
-    // Asked for what it promises of files: they hold bytes, so that as many as give the others are of some code.
+    // Asked for what it promises of files: they hold bytes, so any shards, as many as give the others, are
+    // a codeword's.
     let _servers = site.servers();
     let ratio = info.geometry.ratio;
     let row = table.row(volume);

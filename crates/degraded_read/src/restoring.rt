@@ -4,7 +4,7 @@ ghost use Rattle.std.specs.String.{string_bytes};
 ghost use Rattle.site_model.specs.Counts.{TakesCalls, widest_piece};
 ghost use Rattle.world_model.specs.Ratios.{data_count, parity_count};
 ghost use Rattle.degraded_read.specs.Gathering.{AreNames, HoldRange, IsRestoredPart, OnServers, standing_in};
-ghost use Rattle.degraded_read.specs.Reads.{FailsBy, Reads};
+ghost use Rattle.degraded_read.specs.Reads.{FailsBy, OnlyReads};
 
 use crate::gathering::gather;
 use rs_kernel::restore_piece;
@@ -38,7 +38,7 @@ pub(crate) fn restored<T: Site>(
         places.now shard at failed.new out.new) }
     ensures fails { FailsBy ratio places.now result failed.old failed.new
         (T.counts site.old) (T.counts site.new) }
-    ensures reads { Reads (IsTrue T.tells) T.disk T.counts T.servers
+    ensures reads { OnlyReads (IsTrue T.tells) T.disk T.counts T.servers
         (TakesCalls (length (standing_in places.now (data_count ratio + parity_count ratio)))
         (length out.old)) site.old site.new (λ s. ⊥) }
 {

@@ -1,0 +1,62 @@
+-- Reads of the data file, one after the other.
+use Rattle.std.proofs.Common.{◌≡◌, inl, inr, ℕ, ◌+◌, ◌-◌, ◌*◌, ◌<◌, ◌≤◌, List, ◌++◌, length, take, drop, replicate, Result, Ok, Err, refl, sym, ◌∙◌, ap, subst, length-take, length-drop, length-append, arith}
+use Rattle.std.specs.Prelude.{slice_index, OnOk, IfErr, get_or}
+use Rattle.std.proofs.lemmas.Bool.{cases_lt}
+use Rattle.std.proofs.lemmas.List.{get_or-append_right, get_or_append_left, get_or-take, get_or-drop, get_or_past}
+use Rattle.std.proofs.Math.Nat.{mul-le-mul_right, suc-mul}
+use Rattle.site_model.specs.Counts.{Counts, CountsRead, widest_piece}
+use Rattle.site_model.specs.Laws.Count.{calls_none, calls_read, calls_on, calls_failed}
+use Rattle.shard_make.specs.Rooms.{HoldsPiece, HoldPieces, IsKeptBefore}
+use Rattle.shard_make.specs.Made.{ReadsAt}
+
+pub on_ok : {A E : Type 0} {P Q : Type 0} (r : Result A E) → (P → Q) → OnOk r P → OnOk r Q
+on_ok (Ok x) f p = f p
+on_ok (Err e) f p = tt
+
+-- ---- counts
+
+module _ {A : Type 0} {counts : A → Counts} {servers : A → ℕ} {server : ℕ} where
+  pub reads_none : (at : A) → ReadsAt counts servers server at at ⊥
+  reads_none at = record { calls = calls_none at; writes = refl }
+
+  pub reads_on : {F G : Type 0} {old mid new : A} → ReadsAt counts servers server old mid F → ReadsAt counts servers server mid new G → ReadsAt counts servers server old new G
+  reads_on first second = record { calls = calls_on first.calls second.calls; writes = second.writes ∙ first.writes }
+
+  pub reads_failed : {F G : Type 0} {old new : A} → (G → F) → ReadsAt counts servers server old new F → ReadsAt counts servers server old new G
+  reads_failed failed did = record { calls = calls_failed failed did.calls; writes = did.writes }
+
+  pub reads_one : {width : ℕ} {F : Type 0} {old new : A} → width ≤ widest_piece → CountsRead server width (counts old) (counts new) F → servers new ≡ servers old → ReadsAt counts servers server old new F
+  reads_one narrow did same = record { calls = calls_read narrow did same; writes = did.writes }
+
+-- ---- bytes
+
+-- of what stands in the middle, and before it
+pub at_middle : (front out rest : List ℕ) (from i : ℕ) → length front ≡ from → i < length out → slice_index (front ++ (out ++ rest)) (from + i) ≡ slice_index out i
+at_middle front out rest from i long h =
+    let place : from + i - from ≡ i = omega arith in
+    get_or-append_right front (out ++ rest) from (from + i) 0 long (omega arith)
+    ∙ ap (λ m. get_or (out ++ rest) m 0) place
+    ∙ get_or_append_left out rest 0 i h
+
+-- past the end a list reads as zeros
+pub zeros_past : (dat : List ℕ) (p : ℕ) → length dat ≤ p → slice_index dat p ≡ 0
+zeros_past dat p h = get_or_past dat p 0 h
+
+-- a front of the bytes from a place on, and zeros behind it where the file ends
+pub front_and_zeros : (dat front rest out : List ℕ) (at count j : ℕ) → out ≡ front ++ rest → length front ≡ count → front ≡ take count (drop at dat)
+    → ((i : ℕ) → slice_index rest i ≡ 0) → (count ≤ j → length dat ≤ at + j) → slice_index out j ≡ slice_index dat (at + j)
+front_and_zeros dat front rest out at count j is long read zero past = ap (λ xs. slice_index xs j) is ∙ elim (cases_lt j count) [
+  | inl less ↦ get_or_append_left front rest 0 j (omega (arith, less, long)) ∙ ap (λ xs. slice_index xs j) read ∙ get_or-take count (drop at dat) j 0 less ∙ get_or-drop at dat j 0
+  | inr more ↦ get_or-append_right front rest count j 0 long more ∙ zero (j - count) ∙ sym (zeros_past dat (at + j) (past more))
+]
+
+-- one piece more
+pub pieces_next : (dat old new : List ℕ) (from apart size n : ℕ) → HoldPieces dat old from apart size n → IsKeptBefore (n * size) old new → HoldsPiece dat new (from + n * apart) size n → HoldPieces dat new from apart size (n + 1)
+pieces_next dat old new from apart size n so_far kept piece i h j below = elim (cases_lt i n) [
+  | inl less ↦
+      let next : i + 1 ≤ n = omega (arith, less) in
+      kept (i * size + j) (omega (arith, below, mul-le-mul_right size next)) ∙ so_far i less j below
+  | inr more ↦
+      let same : i ≡ n = omega (arith, h, more) in
+      subst (λ m. slice_index new (m * size + j) ≡ slice_index dat (from + m * apart + j)) (sym same) (piece j below)
+]

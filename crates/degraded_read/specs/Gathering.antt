@@ -5,7 +5,7 @@ use Rattle.std.specs.List.{AllByRecursion, range_with_len}
 use Rattle.site_model.specs.Disk.{Files, bytes_of}
 use Rattle.site_model.specs.Counts.{Counts}
 use Rattle.file_names.specs.declared.Kind.TheVariants.{Shard}
-use Rattle.file_names.specs.Names.{name_bytes}
+use Rattle.file_names.specs.Names.{max_shards, name_bytes}
 use Rattle.world_model.specs.declared.types.Ratio.{Ratio}
 use Rattle.world_model.specs.Ratios.{data_count, parity_count}
 use Rattle.rs_code.specs.Codeword.{IsCodeword}
@@ -18,8 +18,8 @@ shard_name volume i = name_bytes (record { volume = volume; kind = Shard i; temp
 
 -- the names of the volume's shards
 pub record AreNames (volume : ℕ) (names : List (List ℕ)) : Type 0 where
-  pub count : length names ≡ 16
-  pub each : (i : ℕ) → i < 16 → slice_index_or names i [] ≡ shard_name volume i
+  pub count : length names ≡ max_shards
+  pub each : (i : ℕ) → i < max_shards → slice_index_or names i [] ≡ shard_name volume i
 
 -- the bytes of a shard at its place
 abbrev pub shard_at : Files → ℕ → Row → ℕ → List ℕ

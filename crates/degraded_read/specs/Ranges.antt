@@ -1,8 +1,8 @@
 -- What a read of a range of a coded volume's data file gives, and in how many parts it is read.
-use Rattle.std.specs.Prelude.{◌≡◌, ℕ, ◌+◌, ◌*◌, ◌/◌, ◌<◌, List, length, take, drop, slice_index}
+use Rattle.std.specs.Prelude.{◌≡◌, ℕ, ◌+◌, ◌-◌, ◌*◌, ◌/◌, ◌<◌, List, length, take, drop, slice_index}
 use Rattle.std.specs.List.{sum_by}
 use Rattle.site_model.specs.Disk.{Files}
-use Rattle.site_model.specs.Counts.{Counts, TakesCalls}
+use Rattle.site_model.specs.Counts.{Counts, TakesCalls, widest_piece}
 use Rattle.rs_code.specs.Codeword.{value_through}
 use Rattle.stripe_layout.specs.declared.Info.{Info}
 use Rattle.stripe_layout.specs.declared.Piece.{Piece}
@@ -43,14 +43,14 @@ IsKeptBefore from old new = (i : ℕ) → i < from → slice_index new i ≡ sli
 
 -- the parts of at most 65,536 bytes in which so many are read
 abbrev pub parts_in : ℕ → ℕ
-parts_in length = (length + 65535) / 65536
+parts_in length = (length + (widest_piece - 1)) / widest_piece
 
 abbrev pub parts_of : List Piece → ℕ
 parts_of pieces = sum_by (λ p. parts_in p.length) pieces
 
 -- at most one read of each standing shard for each of so many parts
 abbrev pub TakesReads : ℕ → Info → Row → Counts → Counts → Type 0
-TakesReads parts info row old new = TakesCalls (parts * shards_standing info row) 65536 old new
+TakesReads parts info row old new = TakesCalls (parts * shards_standing info row) widest_piece old new
 
 -- the same for each part of the range's pieces
 pub record TakesParts (info : Info) (row : Row) (offset count : ℕ) (old new : Counts) : Type 0 where

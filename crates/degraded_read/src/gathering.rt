@@ -1,4 +1,4 @@
-// The same bytes of as many shards as give all others.
+//! The same bytes of as many shards as give all others.
 ghost use Rattle.std.specs.Prelude.{◌≡◌, ◌⊎◌, ◌<◌, ◌≤◌, ◌+◌, ◌*◌, ℕ, IsTrue, Some, length, map, take, IsErr, OnOk, slice_index};
 ghost use Rattle.std.specs.String.{string_bytes};
 ghost use Rattle.site_model.specs.Disk.{bytes_of};
@@ -74,7 +74,7 @@ pub(crate) fn gather<T: Site>(
     so_far
 }
 
-/// Reads one shard, if it stands, into the place behind those that were read.
+// Reads one shard, if it stands, into the place behind those that were read.
 fn gather_one<T: Site>(
     site: &mut T,
     volume: u32,

@@ -10,10 +10,12 @@ mod ranges;
 mod reader;
 mod reading;
 mod restoring;
+mod standing;
 
 pub use fault::ReadFault;
 pub use ranges::read_range;
-pub use reader::{PART, Reader};
+pub use reader::Reader;
+pub use standing::count_standing;
 
 #[cfg(test)]
 mod tests;

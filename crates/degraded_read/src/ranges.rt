@@ -1,4 +1,4 @@
-// A range of a data file: the pieces of its shards, one after the other, each in parts.
+//! A range of a data file: the pieces of its shards, one after the other, each in parts.
 ghost use Rattle.std.specs.Prelude.{◌≡◌, ◌<◌, ◌≤◌, ◌+◌, ◌^◌, ℕ, IsTrue, IfErr, IsErrOf, None, OnOk, length};
 ghost use Rattle.std.specs.List.{AllByRecursion, sum_by};
 ghost use Rattle.world_model.specs.Sizes.{max_dat};
@@ -12,9 +12,9 @@ ghost use Rattle.degraded_read.specs.Ranges.{TakesParts, TakesReads, parts_in, p
 ghost use Rattle.degraded_read.specs.Reads.{FailsBy, IsFew, OnlyReads};
 
 use crate::ReadFault;
-use crate::reader::{PART, Reader};
+use crate::reader::Reader;
 use shard_table::ShardTable;
-use site_model::{DeviceFault, Site};
+use site_model::{DeviceFault, PIECE, Site};
 use std::alloc::Global;
 use stripe_layout::pieces::Pieces;
 use stripe_layout::{Info, Piece};
@@ -53,7 +53,7 @@ impl Reader {
         self.read_pieces(site, table, info, pieces, out)
     }
 
-    /// Reads pieces of shards into `out`, one after the other.
+    // Reads pieces of shards into `out`, one after the other.
     fn read_pieces<T: Site>(
         &mut self,
         site: &mut T,
@@ -89,8 +89,8 @@ impl Reader {
         Ok(())
     }
 
-    /// Reads a piece of a shard into `out`, from a place of it on, in parts. `failed` is the lowest server
-    /// that failed so far.
+    // Reads a piece of a shard into `out`, from a place of it on, in parts. `failed` is the lowest server
+    // that failed so far.
     fn read_piece<T: Site>(
         &mut self,
         site: &mut T,
@@ -122,7 +122,7 @@ impl Reader {
         let count = piece.length as usize;
         let mut done = 0;
         while done < count {
-            let size = PART.min(count - done);
+            let size = PIECE.min(count - done);
             let part = Piece {
                 shard: piece.shard,
                 at: piece.at + done as u64,

@@ -1,7 +1,7 @@
-// Reads of a volume's shards, with the names and the room that they need.
-ghost use Rattle.std.specs.Prelude.{◌≡◌, ◌<◌, ◌≤◌, ◌+◌, IsTrue, IfErr, IsErrOf, IfOk, OnOk, None, length, map};
+//! Reads of a volume's shards, with the names and the room that they need.
+ghost use Rattle.std.specs.Prelude.{◌≡◌, ◌<◌, ◌≤◌, ◌+◌, ◌*◌, IsTrue, IfErr, IsErrOf, IfOk, OnOk, None, length, map};
 ghost use Rattle.std.specs.String.{string_bytes};
-ghost use Rattle.site_model.specs.Counts.{TakesCalls};
+ghost use Rattle.site_model.specs.Counts.{TakesCalls, widest_piece};
 ghost use Rattle.stripe_layout.specs.Stripes.{shard_length, shards_in_all};
 ghost use Rattle.shard_table.specs.Table.{row_of};
 ghost use Rattle.degraded_read.specs.Gathering.{AreNames};
@@ -10,14 +10,14 @@ ghost use Rattle.degraded_read.specs.Ranges.{FillsPiece, IsKeptBefore};
 ghost use Rattle.degraded_read.specs.Reads.{FailsBy, IsFew, OnlyReads};
 
 use crate::reading::read_part;
-use file_names::{FileName, Kind, spell};
+use file_names::{FileName, Kind, MAX_SHARDS, spell};
 use shard_table::ShardTable;
-use site_model::{DeviceFault, Site};
+use site_model::{DeviceFault, PIECE, Site};
 use std::alloc::{AllocError, Global};
 use stripe_layout::{Info, Piece};
 
-/// The most bytes of a part of a shard that are read at once.
-pub const PART: usize = 65536;
+// The room for as many parts as the widest ratio has data shards.
+const ROOM: usize = 12 * PIECE;
 
 /// Reads parts of one volume's shards. It keeps the names of their files and the room for as many parts as
 /// the widest ratio has data shards.
@@ -27,7 +27,7 @@ pub struct Reader {
     names: Vec<String>,
     room: Vec<u8>,
     ghost names_are: { AreNames volume (map string_bytes names.items) },
-    ghost room_is: { length room.items ≡ 786432 },
+    ghost room_is: { length room.items ≡ 12 * widest_piece },
 }
 
 /// The names of the volume's shards.
@@ -35,7 +35,7 @@ pub(crate) fn names_of(alloc: Global, volume: u32) -> Result<Vec<String>, AllocE
     ensures { IfOk result (λ names. AreNames volume (map string_bytes names.items)) }
 {
     let mut names = Vec::new(alloc);
-    for shard in 0..16u8 {
+    for shard in 0..MAX_SHARDS {
         let name = FileName {
             volume,
             kind: Kind::Shard(shard),
@@ -58,7 +58,7 @@ impl Reader {
         ensures { IfOk result (λ reader. reader.volume ≡ volume) }
     {
         let names = names_of(alloc, volume)?;
-        let room = zeros(alloc, 786432)?;
+        let room = zeros(alloc, ROOM)?;
         Ok(Reader {
             volume,
             names,
@@ -82,7 +82,7 @@ impl Reader {
         requires enough { HasEnoughShards info.now (row_of table.now self.old.volume) }
         requires shard { shard < shards_in_all info.now.geometry }
         requires range { at + length out.old ≤ shard_length info.now.geometry info.now.dat_size }
-        requires part { length out.old ≤ 65536 }
+        requires part { length out.old ≤ widest_piece }
         ensures part { OnOk result (IsTrue T.tells
             → GivesPart (T.disk site.old).files self.old.volume info.now (row_of table.now self.old.volume)
             (NoneRose (T.counts site.old) (T.counts site.new)) shard at out.new) }
@@ -126,7 +126,7 @@ impl Reader {
         requires enough { HasEnoughShards info.now (row_of table.now self.old.volume) }
         requires shard { part.shard < shards_in_all info.now.geometry }
         requires range { part.at + part.length ≤ shard_length info.now.geometry info.now.dat_size }
-        requires part { part.length ≤ 65536 }
+        requires part { part.length ≤ widest_piece }
         requires within { from + part.length ≤ length out.old }
         ensures part { OnOk result (IsTrue T.tells
             → FillsPiece (T.disk site.old).files self.old.volume info.now (row_of table.now self.old.volume)

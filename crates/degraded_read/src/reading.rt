@@ -1,4 +1,4 @@
-// A part of a shard, from the shard itself or from others.
+//! A part of a shard, from the shard itself or from others.
 ghost use Rattle.std.specs.Prelude.{◌≡◌, ◌<◌, ◌≤◌, ◌+◌, ◌*◌, IsTrue, IfSome, OnOk, None, slice_set, length, map};
 ghost use Rattle.std.specs.String.{string_bytes};
 ghost use Rattle.site_model.specs.Counts.{TakesCalls, widest_piece};
@@ -16,7 +16,7 @@ use site_model::{DeviceFault, Site};
 use stripe_layout::Info;
 use world_model::types::Ratio;
 
-/// The places without that of one shard.
+// The places without that of one shard.
 fn without(places: &Places, shard: u8) -> Places
     requires { shard < 16 }
     ensures { result ≡ slice_set places.now shard None }
@@ -26,7 +26,7 @@ fn without(places: &Places, shard: u8) -> Places
     rest
 }
 
-/// The server of a shard that holds data.
+// The server of a shard that holds data.
 fn own_place(places: &Places, ratio: Ratio, shard: u8) -> Option<u32>
     requires { shard < 16 }
     ensures { IfSome result (λ server. IsOwnPlace places.now ratio shard server) }

@@ -1,4 +1,4 @@
-// A part of a shard from other shards.
+//! A part of a shard from other shards.
 ghost use Rattle.std.specs.Prelude.{◌≡◌, ◌<◌, ◌≤◌, ◌+◌, ◌*◌, IsTrue, IsSome, Some, None, OnOk, length, map};
 ghost use Rattle.std.specs.String.{string_bytes};
 ghost use Rattle.site_model.specs.Counts.{TakesCalls, widest_piece};
@@ -59,7 +59,7 @@ pub(crate) fn restored<T: Site>(
     Ok(())
 }
 
-/// The fault of the server that failed.
+// The fault of the server that failed.
 fn blamed(failed: Option<u32>) -> DeviceFault
     requires { IsSome failed }
     ensures { failed ≡ Some result.server }

@@ -1,6 +1,7 @@
-// Reads of volumes of 3 and 2 shards, at five servers in memory with a shard each. Some are missing or fail.
+//! Reads of volumes of 3 and 2 shards, at five servers in memory with a shard each. Some are missing or fail.
 ghost use Rattle.std.specs.Prelude.{◌≡◌, ◌<◌, ◌≤◌, ◌^◌, IfOk, length, map};
 ghost use Rattle.std.specs.String.{string_bytes};
+ghost use Rattle.site_model.specs.Counts.{widest_piece};
 ghost use Rattle.site_mem.specs.Site.{disk_at};
 ghost use Rattle.world_model.specs.declared.types.Ratio.TheVariants.{ThreeTwo};
 ghost use Rattle.stripe_layout.specs.Stripes.{GeometryInRange};
@@ -11,11 +12,11 @@ ghost use Rattle.degraded_read.specs.Reading.{ArePlaced};
 mod standing;
 
 use crate::reader::names_of;
-use crate::tests::standing::{are_placed, count_placed};
-use crate::{PART, ReadFault, Reader, read_range};
+use crate::tests::standing::are_placed;
+use crate::{ReadFault, Reader, count_standing, read_range};
 use shard_table::ShardTable;
 use site_mem::MemSite;
-use site_model::DeviceFault;
+use site_model::{DeviceFault, PIECE};
 use std::alloc::{AllocError, Global};
 use std::process::Abort;
 use std::test::Fail;
@@ -24,15 +25,15 @@ use world_model::types::Ratio;
 
 const VOLUME: u32 = 7;
 
-/// The shards that a volume has, and the servers.
+// The shards that a volume has, and the servers.
 const COUNT: u8 = 5;
 
-/// How many of them give the others.
+// How many of them give the others.
 const ENOUGH: usize = 3;
 
 const NAMES: [&str; 5] = ["7.ec00", "7.ec01", "7.ec02", "7.ec03", "7.ec04"];
 
-/// What a volume has, in blocks of `large` and of 8 bytes.
+// What a volume has, in blocks of `large` and of 8 bytes.
 #[derive(Clone, Copy, Debug)]
 enum Data {
     /// One needle.
@@ -43,7 +44,7 @@ enum Data {
     TwoParts,
 }
 
-/// One needle with the data "123456789".
+// One needle with the data "123456789".
 const NEEDLE: [u8; 56] = [
     3, 0, 0, 0, 0, 0, 0, 0, 0, 0, 0, 0x2a, 0, 0, 0, 0, 0, 0, 0, 1, 0, 0, 0, 0x0e, 0, 0, 0, 9, 0x31,
     0x32, 0x33, 0x34, 0x35, 0x36, 0x37, 0x38, 0x39, 0, 0xe3, 6, 0x92, 0x83, 0, 0, 0, 0, 0, 0, 0, 0,
@@ -52,7 +53,7 @@ const NEEDLE: [u8; 56] = [
 
 const LENGTH: usize = 24;
 
-/// Its shards, as another program computes them.
+// Its shards, as another program computes them.
 const SHARDS: [[u8; LENGTH]; 5] = [
     [
         3, 0, 0, 0, 0, 0, 0, 0, 0, 0, 0, 0x2a, 0, 0, 0, 0, 0, 0, 0, 0, 0, 0, 0, 0,
@@ -74,7 +75,7 @@ const SHARDS: [[u8; LENGTH]; 5] = [
     ],
 ];
 
-/// The byte of each shard of the other volume in its first part, and in all that follows.
+// The byte of each shard of the other volume in its first part, and in all that follows.
 const FIRST: [u8; 5] = *b"1230%";
 
 const REST: [u8; 5] = *b"abc`u";
@@ -111,19 +112,19 @@ fn shard_of(alloc: Global, data: Data, shard: usize) -> Result<Vec<u8>, AllocErr
             bytes.to_vec(alloc)
         }
         Data::TwoParts => {
-            let mut bytes = vec![in alloc; FIRST[shard]; PART]?;
-            let rest = vec![in alloc; REST[shard]; PART + 8]?;
+            let mut bytes = vec![in alloc; FIRST[shard]; PIECE]?;
+            let rest = vec![in alloc; REST[shard]; PIECE + 8]?;
             bytes.extend_from_slice(&rest)?;
             Ok(bytes)
         }
     }
 }
 
-/// A set of shards or servers, as its bits.
+// A set of shards or servers, as its bits.
 #[derive(Clone, Copy, Debug)]
 struct Set(u32);
 
-/// How many sets there are.
+// How many sets there are.
 const SETS: u32 = 1 << 5;
 
 const ALL: Set = Set(SETS - 1);
@@ -135,7 +136,7 @@ impl Set {
         number < COUNT && (self.0 >> u32::from(number)) & 1 == 1
     }
 
-    /// How many of the volume's shards are in it.
+    // How many of the volume's shards are in it.
     fn count(self) -> usize {
         (0..COUNT).filter(|&number| self.has(number)).count()
     }
@@ -149,7 +150,7 @@ impl Set {
     }
 }
 
-/// A reader of a volume, and a table that has each shard of a set at the server of its number.
+// A reader of a volume, and a table that has each shard of a set at the server of its number.
 #[derive(Drop)]
 struct Running {
     data: Data,
@@ -164,7 +165,7 @@ struct Running {
 }
 
 impl Running {
-    /// With these shards, and servers where each read fails.
+    // With these shards, and servers where each read fails.
     fn new(alloc: Global, data: Data, standing: Set, failing: Set) -> Result<Running, Fail> {
         let mut site = site_of(alloc, data, standing)?;
         fail_reads(&mut site, failing, 1);
@@ -177,14 +178,14 @@ impl Running {
         })
     }
 
-    /// Sees that the shards of the table stand, with so many bytes, and are enough.
+    // Sees that the shards of the table stand, with so many bytes, and are enough.
     fn see_shards(&self, rt: &impl Abort, size: u64)
         ensures placed { ArePlaced (disk_at self.now.site).files 7 size (row_of self.now.table 7) }
         ensures enough { 3 ≤ length (standing_in (row_of self.now.table 7) 5) }
     {
         let places = self.table.row(VOLUME);
         assert!(rt; are_placed(&self.site, places, &self.names, size));
-        assert!(rt; count_placed(places, COUNT) >= ENOUGH);
+        assert!(rt; count_standing(places, COUNT) >= ENOUGH);
     }
 
     fn read_shard(
@@ -195,7 +196,7 @@ impl Running {
         out: &mut [u8],
     ) -> Result<(), DeviceFault>
         requires shard { shard < 5 }
-        requires part { length out.old ≤ 65536 }
+        requires part { length out.old ≤ widest_piece }
     {
         let info = info(self.data);
         let size = info.geometry.shard_length(info.dat_size);
@@ -220,7 +221,7 @@ impl Running {
             .read_range(&mut self.site, &self.table, &info, offset, out)
     }
 
-    /// Reads the data file from its start on, without the reader.
+    // Reads the data file from its start on, without the reader.
     fn read_at_once(
         &mut self,
         rt: &impl Abort,
@@ -235,7 +236,7 @@ impl Running {
     }
 }
 
-/// Five servers, with each shard of the set at the server of its number.
+// Five servers, with each shard of the set at the server of its number.
 fn site_of(alloc: Global, data: Data, standing: Set) -> Result<MemSite, AllocError>
     ensures { IfOk result (λ site. site.servers ≡ 5) }
 {
@@ -250,7 +251,7 @@ fn site_of(alloc: Global, data: Data, standing: Set) -> Result<MemSite, AllocErr
     Ok(site)
 }
 
-/// Each read at these servers is to fail, from this call on.
+// Each read at these servers is to fail, from this call on.
 fn fail_reads(site: &mut MemSite, failing: Set, call: u64)
     requires { site.old.servers ≡ 5 }
     ensures { site.new.servers ≡ 5 }
@@ -289,7 +290,7 @@ fn each_shard_and_range_is_read_from_any_three(rt: HostRuntime) -> Result<(), Fa
     Ok(())
 }
 
-/// Sees that these shards, of which some fail, give each shard and each range.
+// Sees that these shards, of which some fail, give each shard and each range.
 fn see_all(rt: &impl Abort, alloc: Global, standing: Set, failing: Set) -> Result<(), Fail> {
     let mut running = Running::new(alloc, Data::Needle, standing, failing)?;
     for shard in 0..COUNT {
@@ -305,7 +306,7 @@ fn see_all(rt: &impl Abort, alloc: Global, standing: Set, failing: Set) -> Resul
     see_ranges(rt, &mut running)
 }
 
-/// Sees what is read from each place of the data file on, to its end and 9 bytes.
+// Sees what is read from each place of the data file on, to its end and 9 bytes.
 fn see_ranges(rt: &impl Abort, running: &mut Running) -> Result<(), Fail> {
     for offset in 0..NEEDLE.len() {
         for end in [NEEDLE.len(), NEEDLE.len().min(offset + 9)] {
@@ -320,7 +321,7 @@ fn see_ranges(rt: &impl Abort, running: &mut Running) -> Result<(), Fail> {
     Ok(())
 }
 
-/// Sees what is answered where the reads at a set of servers fail.
+// Sees what is answered where the reads at a set of servers fail.
 fn see_around(rt: &impl Abort, alloc: Global, failing: Set, shard: u8) -> Result<(), Fail>
     requires { shard < 5 }
 {
@@ -379,7 +380,7 @@ fn a_part_is_read_by_no_more_reads_than_it_takes(rt: HostRuntime) -> Result<(), 
     Ok(())
 }
 
-/// Sees the first byte of each shard, and of the data file where its shards have them.
+// Sees the first byte of each shard, and of the data file where its shards have them.
 fn see_first_bytes(rt: &impl Abort, running: &mut Running, wanted: [u8; 5]) -> Result<(), Fail> {
     for shard in 0..COUNT {
         let mut out = [0; 1];
@@ -435,14 +436,14 @@ fn a_range_is_read_without_a_reader(rt: HostRuntime) -> Result<(), Fail> {
 fn a_long_piece_is_read_in_parts(rt: HostRuntime) -> Result<(), Fail> {
     let alloc = rt.alloc();
     let mut running = Running::new(alloc, Data::TwoParts, Set(0b11101), NONE)?;
-    let mut out = vec![in alloc; 0; 10 + 2 * PART + 10]?;
-    running.read_range(&rt, 2 * PART - 10, &mut out)?;
+    let mut out = vec![in alloc; 0; 10 + 2 * PIECE + 10]?;
+    running.read_range(&rt, 2 * PIECE - 10, &mut out)?;
     assert_eq!(rt; running.site.calls(), 1 + 2 * 3 + 1);
     let wanted = [
         (b'a', 0, 10),
-        (b'2', 10, PART),
-        (b'b', 10 + PART, PART),
-        (b'3', 10 + 2 * PART, 10),
+        (b'2', 10, PIECE),
+        (b'b', 10 + PIECE, PIECE),
+        (b'3', 10 + 2 * PIECE, 10),
     ];
     for (byte, from, size) in wanted {
         let part = out.iter().skip(from).take(size);

@@ -1,4 +1,4 @@
-// The pieces of a row, from the data file.
+//! The pieces of a row, from the data file.
 ghost use Rattle.std.specs.Prelude.{◌≡◌, ◌<◌, ◌≤◌, ◌+◌, ◌*◌, ◌^◌, ℕ, IsTrue, IsErr, IfErr, OnOk, length, slice_index, true, false};
 ghost use Rattle.site_model.specs.Counts.{TakesCalls, widest_piece};
 ghost use Rattle.world_model.specs.Ratios.{data_count};

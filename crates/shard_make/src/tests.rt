@@ -21,7 +21,7 @@ const SERVERS: u32 = 3;
 
 const HOME: u32 = 1;
 
-/// The temporary names of the shards, and their servers.
+// The temporary names of the shards, and their servers.
 const FILES: [(u32, &str); 14] = [
     (0, "7.ec00.tmp"),
     (1, "7.ec01.tmp"),
@@ -39,14 +39,14 @@ const FILES: [(u32, &str); 14] = [
     (1, "7.ec13.tmp"),
 ];
 
-/// A super block, and one needle with the data "123456789".
+// A super block, and one needle with the data "123456789".
 const NEEDLE: [u8; 56] = [
     3, 0, 0, 0, 0, 0, 0, 0, 0, 0, 0, 0x2a, 0, 0, 0, 0, 0, 0, 0, 1, 0, 0, 0, 0x0e, 0, 0, 0, 9, 0x31,
     0x32, 0x33, 0x34, 0x35, 0x36, 0x37, 0x38, 0x39, 0, 0xe3, 6, 0x92, 0x83, 0, 0, 0, 0, 0, 0, 0, 0,
     0, 0, 0, 0, 0, 0,
 ];
 
-/// Its shards of 3 and 2, in a row of blocks of 16 bytes and one of 8, as another program computes them.
+// Its shards of 3 and 2, in a row of blocks of 16 bytes and one of 8, as another program computes them.
 const SHARDS: [[u8; 24]; 5] = [
     [
         3, 0, 0, 0, 0, 0, 0, 0, 0, 0, 0, 0x2a, 0, 0, 0, 0, 0, 0, 0, 0, 0, 0, 0, 0,
@@ -68,7 +68,7 @@ const SHARDS: [[u8; 24]; 5] = [
     ],
 ];
 
-/// The byte of each shard of a longer file in the first piece of its first row, and in all that follows.
+// The byte of each shard of a longer file in the first piece of its first row, and in all that follows.
 const FIRST: [u8; 5] = *b"1230%";
 
 const REST: [u8; 5] = *b"abc`u";
@@ -87,7 +87,7 @@ fn geometry(ratio: Ratio, large: u32) -> Geometry
     }
 }
 
-/// An encode that goes on piece by piece.
+// An encode that goes on piece by piece.
 #[derive(Drop)]
 struct Encoding {
     site: MemSite,
@@ -124,7 +124,7 @@ impl Encoding {
         })
     }
 
-    /// Whether the data file stands with its length.
+    // Whether the data file stands with its length.
     fn has_dat(&self) -> bool
         ensures { IsTrue result
             → length (dat_in self.now.names (disk_at self.now.site).files) ≡ self.now.dat_size }
@@ -152,7 +152,7 @@ impl Encoding {
         )
     }
 
-    /// Whether the temporary file of a shard is exactly these bytes.
+    // Whether the temporary file of a shard is exactly these bytes.
     fn has_shard(&self, shard: usize, bytes: &[u8]) -> bool
         requires { shard < 14 }
     {
@@ -201,7 +201,7 @@ fn a_row_ends_in_zeros_past_the_file(rt: HostRuntime) -> Result<(), Fail> {
     Ok(())
 }
 
-/// A file with a row of blocks of two pieces, and one of blocks of 8 bytes.
+// A file with a row of blocks of two pieces, and one of blocks of 8 bytes.
 fn two_pieces(alloc: Global) -> Result<Vec<u8>, AllocError>
     ensures { IfOk result (λ dat. length dat.items ≤ max_dat) }
 {

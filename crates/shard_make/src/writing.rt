@@ -1,4 +1,4 @@
-// The pieces of a row, into the temporary files of the shards.
+//! The pieces of a row, into the temporary files of the shards.
 ghost use Rattle.std.specs.Prelude.{◌≡◌, ◌<◌, ◌≤◌, ◌+◌, ◌*◌, IsTrue, IsErr, IsErrOf, IfErr, OnOk, Some, length};
 ghost use Rattle.site_model.specs.Disk.{Appends, grown};
 ghost use Rattle.site_model.specs.Counts.{Calls, CountsWrite, TakesCalls, widest_piece};

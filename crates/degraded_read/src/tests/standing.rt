@@ -1,14 +1,14 @@
-// Whether the shards of volume 7 stand at a site in memory as a table has them.
-ghost use Rattle.std.specs.Prelude.{◌≡◌, ◌≤◌, ℕ, IsTrue, Some, length, map};
+//! Whether the shards of volume 7 stand at a site in memory as a table has them.
+ghost use Rattle.std.specs.Prelude.{◌≡◌, ℕ, IsTrue, Some, map};
 ghost use Rattle.std.specs.String.{string_bytes};
 ghost use Rattle.site_mem.specs.Site.{disk_at};
-ghost use Rattle.degraded_read.specs.Gathering.{AreNames, shard_name, standing_in};
+ghost use Rattle.degraded_read.specs.Gathering.{AreNames, shard_name};
 ghost use Rattle.degraded_read.specs.Reading.{ArePlaced, IsShardFile};
 
 use shard_table::{Places, ROOM};
 use site_mem::MemSite;
 
-/// Whether a file stands, with so many bytes.
+// Whether a file stands, with so many bytes.
 fn is_file(site: &MemSite, server: u32, name: &str, size: u64) -> bool
     ensures { IsTrue result → (shard : ℕ) → name.now ≡ shard_name 7 shard
         → IsShardFile (disk_at site.now).files 7 size shard server }
@@ -19,7 +19,7 @@ fn is_file(site: &MemSite, server: u32, name: &str, size: u64) -> bool
     }
 }
 
-/// Whether a file stands at a place, with so many bytes, if there is a place.
+// Whether a file stands at a place, with so many bytes, if there is a place.
 fn is_placed(site: &MemSite, place: Option<u32>, name: &str, size: u64) -> bool
     ensures { IsTrue result → (shard server : ℕ) → name.now ≡ shard_name 7 shard
         → place ≡ Some server → IsShardFile (disk_at site.now).files 7 size shard server }
@@ -41,16 +41,4 @@ pub fn are_placed(site: &MemSite, places: &Places, names: &[String], size: u64) 
         }
     }
     true
-}
-
-/// How many of the first shards have a place.
-pub fn count_placed(places: &Places, shards: u8) -> usize
-    requires { shards ≤ 16 }
-    ensures { result ≡ length (standing_in places.now shards) }
-{
-    let mut count = 0;
-    for shard in 0..shards {
-        count += usize::from(places[usize::from(shard)].is_some());
-    }
-    count
 }

@@ -3,7 +3,7 @@ use Rattle.std.specs.Prelude.{if◌then◌else◌, slice_index_or}
 use mir.Val.{bool_byte}
 use Rattle.degraded_read.specs.Gathering.{reads_of, stands_in}
 use Rattle.degraded_read.proofs.Steps.{standing_next}
-use Rattle.degraded_read.proofs.tests.standing.count_placed.Goals as goal
+use Rattle.degraded_read.proofs.standing.count_standing.Goals as goal
 
 one_if : (b : Bool) → bool_byte b ≡ (if b then 1 else 0)
 one_if true = refl

@@ -1,5 +1,5 @@
 -- The lowest server that failed, over several reads.
-use Rattle.std.proofs.Common.{◌≡◌, ◌⊎◌, inl, inr, ℕ, ◌+◌, ◌≤◌, Option, None, Some, refl, sym, ◌∙◌, ap, subst, arith, Result, Ok, Err}
+use Rattle.std.proofs.Common.{◌≡◌, ◌⊎◌, inl, inr, ℕ, Option, None, Some, refl, sym, subst, arith, Result, Err}
 use Rattle.std.specs.Prelude.{IfErr}
 use Rattle.site_model.specs.Counts.{Counts, Rose, IsLater}
 use Rattle.site_model.specs.Laws.Count.{later_none, later_on}

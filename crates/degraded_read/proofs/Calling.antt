@@ -1,5 +1,5 @@
 -- Reads one after the other.
-use Rattle.std.proofs.Common.{◌≡◌, ℕ, ◌+◌, ◌≤◌, refl, ◌∙◌}
+use Rattle.std.proofs.Common.{ℕ, ◌≤◌, refl, ◌∙◌}
 use Rattle.site_model.specs.Disk.{Disk}
 use Rattle.site_model.specs.Counts.{Counts, CallsAt, TakesCalls, widest_piece}
 use Rattle.site_model.specs.Laws.Count.{calls_nowhere, calls_on_anywhere, calls_read, takes_read}

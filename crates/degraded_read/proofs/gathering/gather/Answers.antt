@@ -1,4 +1,4 @@
-use Rattle.std.proofs.Common.{◌+◌, take, sym, ◌∙◌, ap, subst, length-take, arith}
+use Rattle.std.proofs.Common.{◌+◌, take, sym, ap, subst, length-take, arith}
 use Rattle.std.specs.Prelude.{IsTrue}
 use Rattle.site_model.specs.Counts.{TakesCalls}
 use Rattle.site_model.specs.Laws.Count.{later_on, takes_on, takes_within}

@@ -1,4 +1,4 @@
-use Rattle.std.proofs.Common.{◌≡◌, ◌-◌, ◌≤◌, length, take}
+use Rattle.std.proofs.Common.{◌-◌, ◌≤◌, length, take}
 use Rattle.std.specs.Prelude.{IsTrue}
 use Rattle.site_model.specs.Counts.{Counts, IsLater, TakesCalls}
 use Rattle.degraded_read.specs.Gathering.{AreNumbers, HasGathered, standing_in}

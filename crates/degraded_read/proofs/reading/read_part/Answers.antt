@@ -5,7 +5,7 @@ use Rattle.std.specs.Option.{option_map_or}
 use Rattle.site_model.specs.Disk.{Disk, bytes_of}
 use Rattle.site_model.specs.Counts.{TakesCalls}
 use Rattle.site_model.specs.Laws.Count.{later_read, later_on, takes_on, takes_within}
-use Rattle.world_model.specs.Ratios.{data_count, data_count-some, counts-sixteen}
+use Rattle.world_model.specs.Ratios.{data_count-some, counts-sixteen}
 use Rattle.stripe_layout.specs.Stripes.{shard_length, shards_in_all}
 use Rattle.shard_table.specs.Table.{place_in, row_of}
 use Rattle.image_meaning.specs.Files.{contents, files_of}

@@ -1,12 +1,12 @@
 use Rattle.std.proofs.Common.{◌≡◌, ◌+◌, ◌-◌, ◌≤◌, Err, None, min, sym, ◌∙◌, ap, subst, arith}
 use Rattle.std.proofs.lemmas.Grind.{common_steps}
 use Rattle.std.proofs.lemmas.Result.{err_from_is_err_and}
-use Rattle.site_model.specs.Counts.{Counts, TakesCalls}
+use Rattle.site_model.specs.Counts.{TakesCalls}
 use Rattle.shard_table.specs.Table.{row_of}
 use Rattle.degraded_read.specs.Reading.{shards_standing}
 use Rattle.degraded_read.specs.Reads.{FailsBy}
 use Rattle.degraded_read.proofs.Blaming.{fails_on, stays_on}
-use Rattle.degraded_read.proofs.Calling.{reads_on, reads_so}
+use Rattle.degraded_read.proofs.Calling.{reads_on}
 use Rattle.degraded_read.proofs.Joining.{fills_next, fills_whole, part_read, read_within, placed_still, filled_still}
 use Rattle.degraded_read.proofs.reader.Reader.read_piece.Goals as goal
 

@@ -10,7 +10,7 @@ use Rattle.degraded_read.specs.Reading.{shards_standing}
 use Rattle.degraded_read.specs.Ranges.{parts_in}
 use Rattle.degraded_read.specs.Reads.{FailsBy}
 use Rattle.degraded_read.proofs.Blaming.{fails_on, few_since, none_told, reads_told, stays_on}
-use Rattle.degraded_read.proofs.Calling.{reads_on, reads_so}
+use Rattle.degraded_read.proofs.Calling.{reads_on}
 use Rattle.degraded_read.proofs.Joining.{HasJoined, HasTaken, all_joined, piece_joins, piece_taken, taken_within, placed_still, filled_still}
 use Rattle.degraded_read.proofs.reader.Reader.read_pieces.Goals as goal
 

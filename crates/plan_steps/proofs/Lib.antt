@@ -1,3 +1,4 @@
 mod Examples
+mod LeftRows
 pub mod Walked
 pub mod Rows

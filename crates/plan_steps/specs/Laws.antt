@@ -24,3 +24,4 @@ pub mod Mend
 pub mod List
 pub mod Next
 pub mod MayBack
+pub mod Left

@@ -21,6 +21,8 @@ pub mod Next
 pub mod Legality
 pub mod LegalNext
 pub mod PieceCounts
+pub mod Left
+pub mod After
 pub mod Told
 pub mod Ending
 pub mod Reading

@@ -25,3 +25,7 @@ pub mod List
 pub mod Next
 pub mod MayBack
 pub mod Left
+pub mod Blocks
+pub mod RowPieces
+pub mod Advances
+pub mod Falls

@@ -80,14 +80,14 @@ not_encode : (c : Command) → c ≡ Decode → is_encode c ≡ false
 not_encode c e = ap is_encode e
 
 -- the pieces of rows
-make_here : (info : Info) (n : ℕ) → (row : ℕ) × (at : ℕ) × (make_step info n ≡ MakePiece row at)
+pub make_here : (info : Info) (n : ℕ) → (row : ℕ) × (at : ℕ) × (make_step info n ≡ MakePiece row at)
 make_here info n = by_part (nat_lt n (large_part info.geometry info.dat_size))
   where
     by_part : (b : Bool) → (row : ℕ) × (at : ℕ) × ((if b then make_in_rows info.geometry.large 0 n else make_in_rows info.geometry.small (large_rows info.geometry info.dat_size) (n - large_part info.geometry info.dat_size)) ≡ MakePiece row at)
     by_part true = (_, _, refl)
     by_part false = (_, _, refl)
 
-join_here : (info : Info) (n : ℕ) → (row : ℕ) × (block : ℕ) × (at : ℕ) × (join_step info n ≡ JoinPiece row block at)
+pub join_here : (info : Info) (n : ℕ) → (row : ℕ) × (block : ℕ) × (at : ℕ) × (join_step info n ≡ JoinPiece row block at)
 join_here info n = by_part (nat_lt n (large_end info))
   where
     by_part : (b : Bool) → (row : ℕ) × (block : ℕ) × (at : ℕ)

@@ -29,3 +29,6 @@ pub mod Blocks
 pub mod RowPieces
 pub mod Advances
 pub mod Falls
+pub mod PieceBounds
+pub mod Counting
+pub mod Bound

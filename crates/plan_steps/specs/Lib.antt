@@ -23,6 +23,7 @@ pub mod LegalNext
 pub mod PieceCounts
 pub mod Left
 pub mod After
+pub mod ListParts
 pub mod Told
 pub mod Ending
 pub mod Reading

@@ -79,7 +79,7 @@ pub record Fills (servers : ℕ) (plan : Plan) (row : Row) : Type 0 where
   pub within : (i s : ℕ) → Has plan.targets.items (i, s) → s < servers
   pub short : (i s : ℕ) → Has plan.targets.items (i, s) → i < shards_in_all plan.info.geometry
 
-filter_rises : (test : ℕ → Bool) (a n : ℕ) → Rises (filter test (range_with_len a n))
+pub filter_rises : (test : ℕ → Bool) (a n : ℕ) → Rises (filter test (range_with_len a n))
 filter_rises test a zero = tt
 filter_rises test a (suc n) = by_test (test a) (filter_rises test (a + 1) n)
   where

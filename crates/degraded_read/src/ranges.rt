@@ -1,5 +1,5 @@
 //! A range of a data file: the pieces of its shards, one after the other, each in parts.
-ghost use Rattle.std.specs.Prelude.{◌≡◌, ◌<◌, ◌≤◌, ◌+◌, ◌^◌, ℕ, IsTrue, IfErr, IsErrOf, None, OnOk, length};
+ghost use Rattle.std.specs.Prelude.{◌≡◌, ◌<◌, ◌≤◌, ◌+◌, ◌^◌, ℕ, IsTrue, IfErr, IsErrOf, None, OnOk, length, min};
 ghost use Rattle.std.specs.List.{AllByRecursion, sum_by};
 ghost use Rattle.world_model.specs.Sizes.{max_dat};
 ghost use Rattle.stripe_layout.specs.Pieces.{IsPiece};
@@ -9,6 +9,8 @@ ghost use Rattle.degraded_read.specs.declared.fault.ReadFault.{ReadFault};
 ghost use Rattle.degraded_read.specs.Reading.{HasEnoughShards, HasPlaces, NoneRose};
 ghost use Rattle.degraded_read.specs.Ranges.{FillsPiece, FillsPieces, GivesRange, IsKeptBefore};
 ghost use Rattle.degraded_read.specs.Ranges.{TakesParts, TakesReads, parts_in, parts_of};
+ghost use Rattle.site_model.specs.Counts.{widest_piece};
+ghost use Rattle.degraded_read.specs.Readers.{IsReader};
 ghost use Rattle.degraded_read.specs.Reads.{FailsBy, IsFew, OnlyReads};
 
 use crate::ReadFault;
@@ -37,6 +39,7 @@ impl Reader {
         requires geometry { GeometryInRange info.now.geometry }
         requires dat_size { info.now.dat_size ≤ max_dat }
         requires range { offset + length out.old ≤ info.now.dat_size }
+        requires room { min (length out.old) widest_piece ≤ self.old.widest }
         ensures range { OnOk result (IsTrue T.tells
             → GivesRange (T.disk site.old).files self.old.volume info.now (row_of table.now self.old.volume)
             (NoneRose (T.counts site.old) (T.counts site.new)) offset out.new) }
@@ -45,7 +48,7 @@ impl Reader {
         ensures reads { OnlyReads (IsTrue T.tells) T.disk T.counts T.servers
             (TakesParts info.now (row_of table.now self.old.volume) offset (length out.old))
             site.old site.new (λ s. IsErrOf result (record { server = s })) }
-        ensures volume { self.new.volume ≡ self.old.volume }
+        ensures reader { IsReader self.old.volume self.old.widest self.new }
     {
         let pieces = info
             .geometry
@@ -69,6 +72,7 @@ impl Reader {
         requires pieces { AllByRecursion (IsPiece info.now.geometry info.now.dat_size) pieces }
         requires fits { shard_length info.now.geometry info.now.dat_size < 2 ^ 64 }
         requires within { sum_by (λ p. p.length) pieces ≡ length out.old }
+        requires room { min (length out.old) widest_piece ≤ self.old.widest }
         ensures pieces { OnOk result (IsTrue T.tells
             → FillsPieces (T.disk site.old).files self.old.volume info.now
             (row_of table.now self.old.volume) (NoneRose (T.counts site.old) (T.counts site.new))
@@ -78,7 +82,7 @@ impl Reader {
         ensures reads { OnlyReads (IsTrue T.tells) T.disk T.counts T.servers
             (TakesReads (parts_of pieces) info.now (row_of table.now self.old.volume))
             site.old site.new (λ s. IsErrOf result (record { server = s })) }
-        ensures volume { self.new.volume ≡ self.old.volume }
+        ensures reader { IsReader self.old.volume self.old.widest self.new }
     {
         let mut failed = None;
         let mut done = 0;
@@ -108,6 +112,7 @@ impl Reader {
         requires piece { IsPiece info.now.geometry info.now.dat_size piece }
         requires fits { shard_length info.now.geometry info.now.dat_size < 2 ^ 64 }
         requires within { from + piece.length ≤ length out.old }
+        requires room { min piece.length widest_piece ≤ self.old.widest }
         ensures piece { OnOk result (IsTrue T.tells
             → FillsPiece (T.disk site.old).files self.old.volume info.now (row_of table.now self.old.volume)
             (failed.new ≡ None) piece from out.new) }
@@ -117,7 +122,7 @@ impl Reader {
         ensures reads { OnlyReads (IsTrue T.tells) T.disk T.counts T.servers
             (TakesReads (parts_in piece.length) info.now (row_of table.now self.old.volume))
             site.old site.new (λ s. ⊥) }
-        ensures volume { self.new.volume ≡ self.old.volume }
+        ensures reader { IsReader self.old.volume self.old.widest self.new }
     {
         let count = piece.length as usize;
         let mut done = 0;
@@ -166,7 +171,7 @@ pub fn read_range<T: Site>(
     let pieces = info
         .geometry
         .locate(info.dat_size, offset, out.len() as u64);
-    let mut reader = Reader::new(alloc, volume)?;
+    let mut reader = Reader::for_ranges(alloc, volume, out.len())?;
     reader.read_pieces(site, table, info, pieces, out)?;
     Ok(())
 }

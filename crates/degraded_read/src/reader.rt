@@ -1,5 +1,5 @@
 //! Reads of a volume's shards, with the names and the room that they need.
-ghost use Rattle.std.specs.Prelude.{◌≡◌, ◌<◌, ◌≤◌, ◌+◌, ◌*◌, IsTrue, IfErr, IsErrOf, IfOk, OnOk, None, length, map};
+ghost use Rattle.std.specs.Prelude.{◌≡◌, ◌<◌, ◌≤◌, ◌+◌, ◌*◌, IsTrue, IfErr, IsErrOf, IfOk, OnOk, None, length, map, min};
 ghost use Rattle.std.specs.String.{string_bytes};
 ghost use Rattle.site_model.specs.Counts.{TakesCalls, widest_piece};
 ghost use Rattle.stripe_layout.specs.Stripes.{shard_length, shards_in_all};
@@ -16,18 +16,20 @@ use site_model::{DeviceFault, PIECE, Site};
 use std::alloc::{AllocError, Global};
 use stripe_layout::{Info, Piece};
 
-// The room for as many parts as the widest ratio has data shards.
-const ROOM: usize = 12 * PIECE;
+// How many data shards the widest ratio has.
+const MOST_DATA: usize = 12;
 
-/// Reads parts of one volume's shards. It keeps the names of their files and the room for as many parts as
-/// the widest ratio has data shards.
+/// Reads parts of one volume's shards. It keeps the names of their files and the room for as many of its
+/// widest parts as the widest ratio has data shards.
 #[derive(Drop)]
 pub struct Reader {
     volume: u32,
     names: Vec<String>,
     room: Vec<u8>,
+    widest: usize,
     ghost names_are: { AreNames volume (map string_bytes names.items) },
-    ghost room_is: { length room.items ≡ 12 * widest_piece },
+    ghost room_is: { length room.items ≡ 12 * widest },
+    ghost narrow: { widest ≤ widest_piece },
 }
 
 /// The names of the volume's shards.
@@ -53,16 +55,27 @@ fn zeros(alloc: Global, size: usize) -> Result<Vec<u8>, AllocError>
 }
 
 impl Reader {
-    /// A reader of the volume.
+    ghost use Rattle.degraded_read.specs.Readers.{IsReader};
+
+    /// A reader of the volume, for ranges of any length.
     pub fn new(alloc: Global, volume: u32) -> Result<Reader, AllocError>
-        ensures { IfOk result (λ reader. reader.volume ≡ volume) }
+        ensures { IfOk result (IsReader volume widest_piece) }
+    {
+        Reader::for_ranges(alloc, volume, PIECE)
+    }
+
+    /// A reader of the volume, for ranges that are at most so long. It has no more room than they need.
+    pub fn for_ranges(alloc: Global, volume: u32, longest: usize) -> Result<Reader, AllocError>
+        ensures { IfOk result (IsReader volume (min longest widest_piece)) }
     {
         let names = names_of(alloc, volume)?;
-        let room = zeros(alloc, ROOM)?;
+        let widest = longest.min(PIECE);
+        let room = zeros(alloc, MOST_DATA * widest)?;
         Ok(Reader {
             volume,
             names,
             room,
+            widest,
         })
     }
 
@@ -82,7 +95,7 @@ impl Reader {
         requires enough { HasEnoughShards info.now (row_of table.now self.old.volume) }
         requires shard { shard < shards_in_all info.now.geometry }
         requires range { at + length out.old ≤ shard_length info.now.geometry info.now.dat_size }
-        requires part { length out.old ≤ widest_piece }
+        requires part { length out.old ≤ self.old.widest }
         ensures part { OnOk result (IsTrue T.tells
             → GivesPart (T.disk site.old).files self.old.volume info.now (row_of table.now self.old.volume)
             (NoneRose (T.counts site.old) (T.counts site.new)) shard at out.new) }
@@ -91,7 +104,7 @@ impl Reader {
         ensures reads { OnlyReads (IsTrue T.tells) T.disk T.counts T.servers
             (TakesCalls (shards_standing info.now (row_of table.now self.old.volume)) (length out.old))
             site.old site.new (λ s. IsErrOf result (record { server = s })) }
-        ensures volume { self.new.volume ≡ self.old.volume }
+        ensures reader { IsReader self.old.volume self.old.widest self.new }
     {
         let mut failed = None;
         read_part(
@@ -126,7 +139,7 @@ impl Reader {
         requires enough { HasEnoughShards info.now (row_of table.now self.old.volume) }
         requires shard { part.shard < shards_in_all info.now.geometry }
         requires range { part.at + part.length ≤ shard_length info.now.geometry info.now.dat_size }
-        requires part { part.length ≤ widest_piece }
+        requires part { part.length ≤ self.old.widest }
         requires within { from + part.length ≤ length out.old }
         ensures part { OnOk result (IsTrue T.tells
             → FillsPiece (T.disk site.old).files self.old.volume info.now (row_of table.now self.old.volume)
@@ -137,7 +150,7 @@ impl Reader {
         ensures reads { OnlyReads (IsTrue T.tells) T.disk T.counts T.servers
             (TakesCalls (shards_standing info.now (row_of table.now self.old.volume)) part.length)
             site.old site.new (λ s. ⊥) }
-        ensures volume { self.new.volume ≡ self.old.volume }
+        ensures reader { IsReader self.old.volume self.old.widest self.new }
     {
         let end = from + part.length as usize;
         read_part(

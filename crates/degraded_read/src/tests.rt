@@ -161,6 +161,7 @@ struct Running {
     ghost servers: { site.servers ≡ 5 },
     ghost same: { table.servers ≡ 5 },
     ghost volume: { reader.volume ≡ 7 },
+    ghost widest: { reader.widest ≡ widest_piece },
     ghost names_are: { AreNames 7 (map string_bytes names.items) },
 }
 

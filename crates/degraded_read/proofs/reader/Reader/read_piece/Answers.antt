@@ -43,7 +43,8 @@ loop-done-preserved g c =
     let standing = shards_standing c.args.info.now (row_of c.args.table.now c.args.self.now.volume) in
     record {
       within = omega (arith, part, c.loop-done-test.true);
-      volume = did.volume ∙ inv.volume;
+      volume = did.reader.volume ∙ inv.volume;
+      widest = did.reader.widest ∙ inv.widest;
       before = λ i h. did.before i (omega arith) ∙ inv.before i h;
       blamed = stays_on inv.reads.runs.later inv.blamed did.fails.stays;
       reads = reads_on (λ read more. part_read standing c.loop-done.done c.min-size.result c.args.piece.length c.loop-done-test.true part read

@@ -10,6 +10,7 @@ abbrev pub invariant-loop-done : goal.invariant-loop-done
 invariant-loop-done g l = record {
   within : l.done ≤ l.count;
   volume : l.self.volume ≡ l.fn.self.volume;
+  widest : l.self.widest ≡ l.fn.self.widest;
   before : IsKeptBefore l.from l.fn.out l.out;
   blamed : StaysBlamed l.fn.failed l.failed (g.T.Site.counts l.fn.site) (g.T.Site.counts l.site);
   reads : OnlyReads (IsTrue g.T.Site.tells) g.T.Site.disk g.T.Site.counts g.T.Site.servers (HasRead (shards_standing l.info (row_of l.table l.fn.self.volume)) l.done l.count) l.fn.site l.site (λ s. ⊥);

@@ -62,7 +62,8 @@ loop-piece-preserved g c =
     record {
       each = each.1;
       total = omega (arith, total, sum);
-      volume = did.volume ∙ inv.volume;
+      volume = did.reader.volume ∙ inv.volume;
+      widest = did.reader.widest ∙ inv.widest;
       blamed = stays_on inv.reads.runs.later inv.blamed did.fails.stays;
       reads = reads_on (λ before more. piece_taken standing c.args.pieces c.in-Some.piece c.next.new.self
           (subst (λ ps. HasTaken standing c.args.pieces ps (g.T.Site.counts c.args.site.now) (g.T.Site.counts c.loop-piece.site)) step before)

@@ -12,6 +12,7 @@ invariant-loop-piece g l = record {
   each : AllByRecursion (IsPiece l.info.geometry l.info.dat_size) l.piece-iterator;
   total : l.done + sum_by (λ p. p.length) l.piece-iterator ≡ length l.fn.out;
   volume : l.self.volume ≡ l.fn.self.volume;
+  widest : l.self.widest ≡ l.fn.self.widest;
   blamed : StaysBlamed None l.failed (g.T.Site.counts l.fn.site) (g.T.Site.counts l.site);
   reads : OnlyReads (IsTrue g.T.Site.tells) g.T.Site.disk g.T.Site.counts g.T.Site.servers (HasTaken (shards_standing l.info (row_of l.table l.fn.self.volume)) l.fn.pieces l.piece-iterator) l.fn.site l.site (λ s. ⊥);
   joined : IsTrue g.T.Site.tells → HasJoined (g.T.Site.disk l.fn.site).files l.fn.self.volume l.info (row_of l.table l.fn.self.volume) (l.failed ≡ None) l.fn.pieces l.done l.piece-iterator l.out;

@@ -31,4 +31,5 @@ pub mod Advances
 pub mod Falls
 pub mod PieceBounds
 pub mod Counting
+pub mod FromStart
 pub mod Bound

@@ -1,9 +1,9 @@
 -- How a piece lowers the count of those that are left.
-use Rattle.std.proofs.Common.{◌≡◌, ◌⊎◌, inl, inr, ℕ, zero, suc, ◌+◌, ◌-◌, ◌*◌, ◌/◌, ◌%◌, ◌<◌, ◌≤◌, ◌∙◌, ap, arith}
+use Rattle.std.proofs.Common.{◌≡◌, ◌≢◌, ◌⊎◌, inl, inr, ℕ, zero, suc, ◌+◌, ◌-◌, ◌*◌, ◌/◌, ◌%◌, ◌<◌, ◌≤◌, ◌∙◌, ap, arith}
 use Rattle.std.specs.Prelude.{min}
-use Rattle.std.proofs.lemmas.Bool.{cases_lt}
+use Rattle.std.proofs.lemmas.Bool.{cases_eq, cases_lt}
 use Rattle.std.proofs.lemmas.Nat.{div-mul-add, mod-mul-add}
-use Rattle.std.proofs.Math.Nat.{div-lt_iff_lt-mul, lt-div-mul-add, div-add-mod, mod-lt}
+use Rattle.std.proofs.Math.Nat.{div-lt_iff_lt-mul, lt-div-mul-add, div-add-mod, mod-lt, mul-le-mul_left, mul-le-mul_right}
 use Rattle.site_model.specs.Counts.{widest_piece}
 use Rattle.stripe_layout.specs.Stripes.{rounded_up}
 use Rattle.plan_steps.specs.PieceCounts.{block_pieces}
@@ -29,6 +29,9 @@ round_some m u some h = by_count (rounded_up m u) (round_reaches m u some)
     by_count : (q : ℕ) → m ≤ q * u → 0 < q
     by_count zero reaches = omega (arith, reaches, h)
     by_count (suc q) reaches = omega arith
+
+pub round_kept : (m n u : ℕ) → 0 < u → m ≤ n → rounded_up m u ≤ rounded_up n u
+round_kept m n u some h = round_least m u (rounded_up n u) some (omega (arith, h, round_reaches n u some))
 
 -- a piece that is as long as it may be, or takes all
 pub round_falls : (m c u : ℕ) → 0 < u → 0 < m → (u ≤ c) ⊎ (m ≤ c) → rounded_up (m - c) u < rounded_up m u
@@ -78,6 +81,18 @@ pub in_blocks_whole : (size q : ℕ) → 0 < size → in_blocks size (q * size) 
 in_blocks_whole size q some =
     let same : q * size ≡ q * size + 0 = omega arith in
     omega (arith, ap (in_blocks size) same, in_blocks_at size q 0 some (omega arith), round_none widest_piece (omega arith))
+
+-- fewer bytes have no more pieces
+pub in_blocks_kept : (size m n : ℕ) → 0 < size → m ≤ n → in_blocks size m ≤ in_blocks size n
+in_blocks_kept size m n some h = by_blocks (m / size) (m % size) (n / size) (n % size) (div-add-mod m size) (mod-lt m {m = size} some) (div-add-mod n size) (mod-lt n {m = size} some)
+  where
+    by_blocks : (a b c d : ℕ) → size * a + b ≡ m → b < size → size * c + d ≡ n → d < size → a * block_pieces size + rounded_up b widest_piece ≤ c * block_pieces size + rounded_up d widest_piece
+    by_blocks a b c d was short is less = by_count (cases_lt a c) (cases_eq a c)
+      where
+        by_count : (a < c) ⊎ (c ≤ a) → (a ≡ c) ⊎ (a ≢ c) → a * block_pieces size + rounded_up b widest_piece ≤ c * block_pieces size + rounded_up d widest_piece
+        by_count (inl before) either = omega (arith, mul-le-mul_right (block_pieces size) before, round_kept b size widest_piece (omega arith) (omega (arith, short)))
+        by_count (inr behind) (inl same) = omega (arith, ap (λ k. k * block_pieces size) same, round_kept b d widest_piece (omega arith) (omega (arith, was, is, h, ap (λ k. size * k) same)))
+        by_count (inr behind) (inr other) = let past : suc c ≤ a = omega (arith, behind, other) in absurd (omega (arith, mul-le-mul_left size past, was, is, h, less))
 
 -- what a piece leaves to the end of so many blocks
 pub record Lowers (size end n c : ℕ) : Type 0 where

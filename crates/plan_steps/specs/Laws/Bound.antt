@@ -1,15 +1,17 @@
 -- How many steps a plan has at most.
 -- For the running plans of `plan_run`, to come.
-use Rattle.std.proofs.Common.{◌≡◌, ◌⊎◌, inl, inr, ℕ, ◌+◌, ◌*◌, ◌%◌, ◌≤◌, Bool, true, false, List, [], ◌∷◌, ◌++◌, length, map, Some, refl, sym, ◌∙◌, ap, subst, arith}
+use Rattle.std.proofs.Common.{◌≡◌, ◌⊎◌, inl, inr, ℕ, ◌+◌, ◌-◌, ◌*◌, ◌%◌, ◌≤◌, Bool, true, false, List, [], ◌∷◌, ◌++◌, length, map, Some, refl, sym, ◌∙◌, ap, subst, arith}
 use Rattle.std.specs.Prelude.{◌||◌, ◌==◌, ◌&&◌, not, filter, flat_map, if◌then◌else◌, is_some}
 use Rattle.std.proofs.lemmas.Bool.{and_parts, and_from, eq-eqb}
 use Rattle.std.proofs.lemmas.List.{length-map}
 use Rattle.std.proofs.lemmas.List.FromFn.{length-range_with_len}
 use Rattle.std.proofs.lemmas.List.Sums.{sum_by-cons}
-use Rattle.std.proofs.Math.Nat.{mul-le-mul_right}
+use Rattle.std.proofs.Math.Nat.{div-mul-le_self, mul-le-mul_right}
 use Rattle.image_meaning.specs.Files.{all_servers}
 use Rattle.image_meaning.specs.Laws.Options.{some_is}
+use Rattle.world_model.specs.Sizes.{deletion_length}
 use Rattle.world_model.specs.Ratios.{counts-sixteen}
+use Rattle.site_model.specs.Counts.{widest_piece}
 use Rattle.world_model.specs.declared.types.Command.{Command}
 use Rattle.world_model.specs.declared.types.Command.TheVariants.{Encode, Rebuild, Balance, Decode}
 use Rattle.file_names.specs.declared.Kind.{Kind}
@@ -18,34 +20,37 @@ use Rattle.stripe_layout.specs.Stripes.{shards_in_all}
 use Rattle.shard_table.specs.Table.{Row, place_in}
 use Rattle.shard_table.specs.declared.moves.ShardMove.{ShardMove}
 use Rattle.plan_steps.specs.declared.plan.Plan.{Plan}
+use Rattle.plan_steps.specs.declared.plan.FileState.{FileState}
 use Rattle.plan_steps.specs.declared.plan.Stage.TheVariants.{Absent}
 use Rattle.plan_steps.specs.Planned.{is_encode, is_at, held, is_found, is_found_coded}
 use Rattle.plan_steps.specs.Legal.{IsFound}
 use Rattle.plan_steps.specs.Laws.Found.{encode_finds, coded_finds}
-use Rattle.plan_steps.specs.Order.{Names}
+use Rattle.plan_steps.specs.Order.{Names, names_of}
 use Rattle.plan_steps.specs.Lists.{is_target, shard_names, beside_names, left_names, encode_names, move_names, mend_names, decode_names, list_by, list_of}
 use Rattle.plan_steps.specs.Plans.{all_numbers, missing_of, filled, IsPlaced, IsMendPlan, IsPlanBy, IsPlan}
-use Rattle.plan_steps.specs.PieceCounts.{pieces}
+use Rattle.plan_steps.specs.PieceCounts.{pieces, bound_below}
 use Rattle.plan_steps.specs.Beginning.{first_stage, first_state, first_states}
 use Rattle.plan_steps.specs.Members.{Has, has_any, filter_has}
 use Rattle.plan_steps.specs.MendList.{Fills, rebuild_fills, balance_fills, place_found}
 use Rattle.plan_steps.specs.Laws.Move.{IsMoved, IsStill, moves_fate, IsFilled, IsPassed, got_filled, length_filled}
-use Rattle.plan_steps.specs.Left.{pieces_left, index_left, shard_left, going_left, coming_left, file_left, left_of}
+use Rattle.plan_steps.specs.Next.{entries_by}
+use Rattle.plan_steps.specs.Left.{list_piece, pieces_left, index_left, shard_left, going_left, coming_left, file_left, left_of}
 use Rattle.plan_steps.specs.ListParts.{parts_of, parts_by, list_parts}
 use Rattle.plan_steps.specs.Laws.PieceBounds.{listed_few, copied_few, shards_few, data_left_few, reading_few}
+use Rattle.plan_steps.specs.Laws.FromStart.{left_most}
 use Rattle.plan_steps.specs.Laws.Counting.{servers_few, filled_length, filter_few, placed_few, moves_few}
 
 module _ (plan : Plan) where
   -- ---- the steps of one file, and of a list
 
   abbrev cost : ℕ × Kind → ℕ
-  cost name = file_left plan 8 (first_state plan name)
+  cost name = file_left plan 0 (first_state plan name)
 
   abbrev total : Names → ℕ
-  total names = left_of plan (first_states plan names) 8
+  total names = left_of plan (first_states plan names) 0
 
   total_cons : (name : ℕ × Kind) (names : Names) → total (name ∷ names) ≡ cost name + total names
-  total_cons name names = sum_by-cons (file_left plan 8) (first_state plan name) (first_states plan names)
+  total_cons name names = sum_by-cons (file_left plan 0) (first_state plan name) (first_states plan names)
 
   total_append : (a b : Names) → total (a ++ b) ≡ total a + total b
   total_append [] b = omega arith
@@ -56,7 +61,7 @@ module _ (plan : Plan) where
   kinds_cost kind most each [] = omega arith
   kinds_cost kind most each (s ∷ servers) = omega (arith, total_cons (s, kind) (map (λ (s : ℕ). (s, kind)) servers), each s, kinds_cost kind most each servers)
 
-  some_left : (kind : Kind) → 1 ≤ coming_left plan 8 0 Absent kind
+  some_left : (kind : Kind) → 1 ≤ coming_left plan 0 0 Absent kind
   some_left Dat = omega arith
   some_left Idx = omega arith
   some_left Cpd = omega arith
@@ -68,13 +73,13 @@ module _ (plan : Plan) where
 
   -- what was found goes by one step
   found_cost : (server : ℕ) (kind : Kind) → IsFound plan server kind → cost (server, kind) ≡ 1
-  found_cost server kind found = ap (λ b. if b then going_left (first_stage b) else coming_left plan 8 0 (first_stage b) kind) found
+  found_cost server kind found = ap (λ b. if b then going_left (first_stage b) else coming_left plan 0 0 (first_stage b) kind) found
 
   -- and no file has more than one that is written
-  written_cost : (server : ℕ) (kind : Kind) → cost (server, kind) ≤ coming_left plan 8 0 Absent kind
+  written_cost : (server : ℕ) (kind : Kind) → cost (server, kind) ≤ coming_left plan 0 0 Absent kind
   written_cost server kind = by_found (is_found plan plan.command server kind)
     where
-      by_found : (b : Bool) → (if b then going_left (first_stage b) else coming_left plan 8 0 (first_stage b) kind) ≤ coming_left plan 8 0 Absent kind
+      by_found : (b : Bool) → (if b then going_left (first_stage b) else coming_left plan 0 0 (first_stage b) kind) ≤ coming_left plan 0 0 Absent kind
       by_found true = some_left kind
       by_found false = omega arith
 
@@ -95,7 +100,7 @@ module _ (plan : Plan) where
     index_cost : (server : ℕ) → cost (server, Ecx) ≤ e + 3
     index_cost server = omega (arith, written_cost server Ecx, index)
 
-  module _ (e : ℕ) (journal : pieces_left plan 8 0 Ecj ≤ e) where
+  module _ (e : ℕ) (journal : pieces_left plan 0 0 Ecj ≤ e) where
     journal_cost : (server : ℕ) → cost (server, Ecj) ≤ e + 3
     journal_cost server = omega (arith, written_cost server Ecj, journal)
 
@@ -133,7 +138,7 @@ module _ (plan : Plan) where
 
   -- ---- a rebuild and a balance
 
-  module _ (all e d : ℕ) (shards : shard_left plan plan.command 0 ≤ all) (index : index_left plan plan.command 0 ≤ e) (journal : pieces_left plan 8 0 Ecj ≤ d) where
+  module _ (all e d : ℕ) (shards : shard_left plan plan.command 0 ≤ all) (index : index_left plan plan.command 0 ≤ e) (journal : pieces_left plan 0 0 Ecj ≤ d) where
     abbrev beside : ℕ
     beside = e + d + 7
 
@@ -199,7 +204,7 @@ module _ (plan : Plan) where
         left_go servers (λ t kind has. found t kind (inr has)),
       )
 
-  module _ (all e : ℕ) (dat : pieces_left plan 8 0 Dat ≤ 12 * all + e) (idx : pieces_left plan 8 0 Idx ≤ 13 * all + 2 * e) where
+  module _ (all e : ℕ) (dat : pieces_left plan 0 0 Dat ≤ 12 * all + e) (idx : pieces_left plan 0 0 Idx ≤ 13 * all + 2 * e) where
     decode_total : (places : List (ℕ × ℕ)) (servers : List ℕ) → length places ≤ 16 → length servers ≤ length places → total (shard_names places) ≤ length places → total (flat_map left_names servers) ≤ length servers * 3
         → total (decode_names plan.home (shard_names places ++ flat_map left_names servers)) ≤ 400 + 32 * (all + e)
     decode_total places servers few fewer shards left =
@@ -247,22 +252,21 @@ places_few plan servers row is = omega (arith, ap length is.places, placed_few r
 
 -- ---- any plan
 
--- A plan has at most so many steps: of each piece of the rows of its volume 32, and of each part of its lists.
-pub left_bound : (plan : Plan) (servers : ℕ) → IsPlan plan servers → left_of plan (first_states plan (list_of plan)) 8 ≤ 400 + 32 * (pieces plan.info.geometry plan.info.dat_size + list_parts plan)
-left_bound plan servers is = by_command plan.command refl is.made
+most_at_first : (plan : Plan) (servers : ℕ) → IsPlan plan servers → left_of plan (first_states plan (list_of plan)) 0 ≤ 400 + 32 * (pieces plan.info.geometry plan.info.dat_size + list_parts plan)
+most_at_first plan servers is = by_command plan.command refl is.made
   where
     shards : shard_left plan plan.command 0 ≤ pieces plan.info.geometry plan.info.dat_size
     shards = shards_few plan is.geometry plan.command
 
     mends : (c : Command) → plan.command ≡ c → is_encode plan.command ≡ false → index_left plan plan.command 0 ≤ parts_of plan.entry_count → (mend : IsMendPlan servers plan) → Fills servers plan mend.row → length plan.targets.items ≤ 16
-        → left_of plan (first_states plan (mend_names plan)) 8 ≤ 400 + 32 * (pieces plan.info.geometry plan.info.dat_size + (parts_of plan.entry_count + parts_of (length plan.deleted.items)))
+        → left_of plan (first_states plan (mend_names plan)) 0 ≤ 400 + 32 * (pieces plan.info.geometry plan.info.dat_size + (parts_of plan.entry_count + parts_of (length plan.deleted.items)))
     mends c e coded index mend fills few =
         mend_total plan (pieces plan.info.geometry plan.info.dat_size) (parts_of plan.entry_count) (parts_of (length plan.deleted.items)) shards index (listed_few (length plan.deleted.items))
         (filter (λ s. is_target plan s && not (held plan s)) all_servers) plan.targets.items (λ s. held plan s || is_target plan s) plan.moves.items few
         (servers_few (λ s. is_target plan s && not (held plan s)) plan.targets.items (λ s e. (and_parts (is_target plan s) (not (held plan s)) e).0))
         (moves_at_most plan servers mend fills coded) (from_found plan servers mend fills coded)
 
-    by_command : (c : Command) → plan.command ≡ c → IsPlanBy servers plan c → left_of plan (first_states plan (list_by plan c)) 8 ≤ 400 + 32 * (pieces plan.info.geometry plan.info.dat_size + parts_by plan c)
+    by_command : (c : Command) → plan.command ≡ c → IsPlanBy servers plan c → left_of plan (first_states plan (list_by plan c)) 0 ≤ 400 + 32 * (pieces plan.info.geometry plan.info.dat_size + parts_by plan c)
     by_command (Encode ratio) e made =
         encode_total plan (pieces plan.info.geometry plan.info.dat_size) (parts_of (length plan.entries.items)) shards (subst (λ c. index_left plan c 0 ≤ parts_of (length plan.entries.items)) (sym e) (listed_few (length plan.entries.items)))
         (filter (is_target plan) all_servers) plan.targets.items
@@ -286,3 +290,31 @@ left_bound plan servers is = by_command plan.command refl is.made
         left_held s kind e (inr (inl same)) = subst (λ (p : ℕ × Kind). is_found_coded plan p.0 p.1 ≡ true) same e
         left_held s kind e (inr (inr (inl same))) = subst (λ (p : ℕ × Kind). is_found_coded plan p.0 p.1 ≡ true) same e
         left_held s kind e (inr (inr (inr none))) = absurd none
+
+-- At each progress a plan has at most so many steps left: of each piece of the rows of its volume 32, and of each part of its lists.
+pub left_bound : (plan : Plan) (servers : ℕ) → IsPlan plan servers → (states : List FileState) (place : ℕ) → names_of states ≡ list_of plan
+    → left_of plan states place ≤ 400 + 32 * (pieces plan.info.geometry plan.info.dat_size + list_parts plan)
+left_bound plan servers is states place listed =
+    omega (arith, left_most plan is.geometry states place, ap (λ names. left_of plan (first_states plan names) 0) listed, most_at_first plan servers is)
+
+-- ---- by the bytes of the volume
+
+parts_small : (n : ℕ) → widest_piece * parts_of n ≤ deletion_length * n + widest_piece
+parts_small n = omega (arith, div-mul-le_self (n + list_piece - 1) list_piece)
+
+lists_small : (plan : Plan) (c : Command) → widest_piece * parts_by plan c ≤ deletion_length * (entries_by plan c + length plan.deleted.items) + 2 * widest_piece
+lists_small plan (Encode ratio) = omega (arith, parts_small (length plan.entries.items))
+lists_small plan Rebuild = omega (arith, parts_small plan.entry_count, parts_small (length plan.deleted.items))
+lists_small plan Balance = omega (arith, parts_small plan.entry_count, parts_small (length plan.deleted.items))
+lists_small plan Decode = omega (arith, parts_small (length plan.deleted.items))
+
+-- So they are fewer than the lines that a job has for them, where the volume has so many bytes in use: as many as the data file
+-- that was coded, and a third of those of the records that its lists name.
+pub left_within : (plan : Plan) (servers used : ℕ) → IsPlan plan servers → (states : List FileState) (place : ℕ) → names_of states ≡ list_of plan
+    → plan.info.dat_size ≤ used → deletion_length * (entries_by plan plan.command + length plan.deleted.items) ≤ 3 * used → left_of plan states place ≤ 32 * used + 999999
+left_within plan servers used is states place listed coded named =
+    omega (
+      arith,
+      left_bound plan servers is states place listed,
+      bound_below plan.info.geometry plan.info.dat_size used (list_parts plan) is.geometry coded (omega (arith, lists_small plan plan.command, named)),
+    )

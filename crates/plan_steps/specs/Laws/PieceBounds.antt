@@ -109,8 +109,8 @@ copied_few n = round_least (16 * n - 0) widest_piece (parts_of n) (omega arith) 
 deleted_few : (size n : ℕ) → rounded_up (size + deletion_length * n - max size 0) (deletion_length * list_piece) ≤ parts_of n
 deleted_few size n = round_least (size + deletion_length * n - max size 0) (deletion_length * list_piece) (parts_of n) (omega arith) (omega (arith, parts_reach n))
 
-reads_few : (size n all e : ℕ) → size ≤ 12 * (all * widest_piece) → n ≤ e * list_piece → rounded_up (size + deletion_length * n - 8) least_read ≤ 13 * all + 2 * e
-reads_few size n all e short listed = round_least (size + deletion_length * n - 8) least_read (13 * all + 2 * e) (omega arith) (omega (arith, short, listed))
+reads_few : (size n all e : ℕ) → size ≤ 12 * (all * widest_piece) → n ≤ e * list_piece → rounded_up (size + deletion_length * n - 0) least_read ≤ 13 * all + 2 * e
+reads_few size n all e short listed = round_least (size + deletion_length * n - 0) least_read (13 * all + 2 * e) (omega arith) (omega (arith, short, listed))
 
 module _ (plan : Plan) (range : GeometryInRange plan.info.geometry) where
   abbrev whole : ℕ
@@ -127,5 +127,5 @@ module _ (plan : Plan) (range : GeometryInRange plan.info.geometry) where
   data_left_few = omega (arith, joined_few plan.info range, deleted_few plan.info.dat_size (length plan.deleted.items))
 
   -- and of its index
-  pub reading_few : rounded_up (joined_length plan - 8) least_read ≤ 13 * whole + 2 * parts_of (length plan.deleted.items)
+  pub reading_few : rounded_up (joined_length plan - 0) least_read ≤ 13 * whole + 2 * parts_of (length plan.deleted.items)
   reading_few = reads_few plan.info.dat_size (length plan.deleted.items) whole (parts_of (length plan.deleted.items)) (data_few plan.info range) (parts_reach (length plan.deleted.items))

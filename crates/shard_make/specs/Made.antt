@@ -88,13 +88,14 @@ pub record IsAppendFault (names : ShardNames) (server : ℕ) (old new : Counts) 
   pub rose : Rose (old.write_faults server) (new.write_faults server)
 
 -- a read of the data file failed, before anything was written
-pub record IsReadFault (names : ShardNames) (server : ℕ) (old new : Counts) : Type 0 where
+pub record IsReadFault (names : ShardNames) (unchanged : Type 0) (server : ℕ) (old new : Counts) : Type 0 where
   pub server_is : server ≡ names.home
   pub rose : Rose (old.faults server) (new.faults server)
   pub writes : new.write_faults ≡ old.write_faults
+  pub same : unchanged
 
-abbrev pub IsFault : ShardNames → ℕ → Counts → Counts → Type 0
-IsFault names server old new = IsReadFault names server old new ⊎ IsAppendFault names server old new
+abbrev pub IsFault : ShardNames → Type 0 → ℕ → Counts → Counts → Type 0
+IsFault names unchanged server old new = IsReadFault names unchanged server old new ⊎ IsAppendFault names server old new
 
 -- a read of each data block, and an append for each shard
 abbrev pub calls_of : Ratio → ℕ

@@ -45,7 +45,8 @@ pub fn make_piece<T: Site>(
         (T.counts site.new) }
     ensures runs { Calls T.counts T.servers site.old site.new
         (λ s. IsErrOf result (record { server = s })) }
-    ensures cause { IfErr result (λ fault. IsFault names.now fault.server
+    ensures cause { IfErr result (λ fault. IsFault names.now
+        (IsTrue T.tells → T.disk site.new ≡ T.disk site.old) fault.server
         (T.counts site.old) (T.counts site.new)) }
 {
     let pieces = pieces_of_row(&geometry, dat_size, row, at);
@@ -73,7 +74,8 @@ fn make_in<T: Site>(
         (T.counts site.new) }
     ensures runs { Calls T.counts T.servers site.old site.new
         (λ s. IsErrOf result (record { server = s })) }
-    ensures cause { IfErr result (λ fault. IsFault names.now fault.server
+    ensures cause { IfErr result (λ fault. IsFault names.now
+        (IsTrue T.tells → T.disk site.new ≡ T.disk site.old) fault.server
         (T.counts site.old) (T.counts site.new)) }
 {
     read_pieces(site, names, dat_size, row, room)?;

@@ -202,16 +202,16 @@ fn a_row_ends_in_zeros_past_the_file(rt: HostRuntime) -> Result<(), Fail> {
 }
 
 // A file with a row of blocks of two pieces, and one of blocks of 8 bytes.
-fn two_pieces(alloc: Global) -> Result<Vec<u8>, AllocError>
-    ensures { IfOk result (λ dat. length dat.items ≤ max_dat) }
-{
-    let mut dat = vec![in alloc; 0; 393_240]?;
+fn two_pieces(alloc: Global) -> Result<Vec<u8>, AllocError> {
+    let mut dat = Vec::new(alloc);
     for shard in 0..3usize {
-        let from = shard * 2 * PIECE;
-        dat[from..from + PIECE].fill(FIRST[shard]);
-        dat[from + PIECE..from + 2 * PIECE].fill(REST[shard]);
-        let last = 6 * PIECE + 8 * shard;
-        dat[last..last + 8].fill(REST[shard]);
+        let first = vec![in alloc; FIRST[shard]; PIECE]?;
+        let rest = vec![in alloc; REST[shard]; PIECE]?;
+        dat.extend_from_slice(&first)?;
+        dat.extend_from_slice(&rest)?;
+    }
+    for shard in 0..3usize {
+        dat.extend_from_slice(&[REST[shard]; 8])?;
     }
     Ok(dat)
 }
@@ -220,6 +220,7 @@ fn two_pieces(alloc: Global) -> Result<Vec<u8>, AllocError>
 fn a_long_block_is_made_piece_by_piece(rt: HostRuntime) -> Result<(), Fail> {
     let alloc = rt.alloc();
     let dat = two_pieces(alloc)?;
+    assert_eq!(rt; dat.len(), 393_240);
     let mut encoding = Encoding::new(alloc, geometry(Ratio::ThreeTwo, 131_072), &dat)?;
     for (row, at) in [(0u32, 0u32), (0, 65_536), (1, 0)] {
         encoding.make(&rt, u64::from(row), u64::from(at))?;

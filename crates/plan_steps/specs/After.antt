@@ -1,6 +1,6 @@
 -- How a step that succeeds moves the files of a plan, and the place of a decode's next record.
 -- For `run_step` of the running plans of `plan_run`, to come.
-use Rattle.std.specs.Prelude.{◌≡◌, ◌⊎◌, ℕ, ◌+◌, ◌-◌, ◌*◌, ◌≤◌, nat_lt, min, if◌then◌else◌, Bool, true, false, List, length, map, slice_get, Some}
+use Rattle.std.specs.Prelude.{◌≡◌, ◌⊎◌, ℕ, ◌+◌, ◌-◌, ◌*◌, ◌%◌, ◌≤◌, nat_lt, min, if◌then◌else◌, Bool, true, false, List, length, map, slice_get, Some}
 use Rattle.world_model.specs.Sizes.{deletion_length}
 use Rattle.site_model.specs.Counts.{widest_piece}
 use Rattle.file_names.specs.declared.Kind.{Kind}
@@ -46,7 +46,7 @@ abbrev pub piece_length : Plan → ℕ → ℕ → Step → ℕ
 piece_length plan taken n (PutInfo server) = 0
 piece_length plan taken n (WriteEntries at) = 16 * entries_in_piece plan taken at (is_encode plan.command)
 piece_length plan taken n (PutJournal server at) = 16 * min list_piece (length plan.deleted.items - at)
-piece_length plan taken n (MakePiece row at) = min widest_piece (block_of plan.info row - at)
+piece_length plan taken n (MakePiece row at) = min (min widest_piece (block_of plan.info row - at)) (shard_length plan.info.geometry plan.info.dat_size - n)
 piece_length plan taken n (MendPiece at) = min widest_piece (shard_length plan.info.geometry plan.info.dat_size - at)
 piece_length plan taken n (JoinPiece row block at) = min (min widest_piece (block_of plan.info row - at)) (plan.info.dat_size - n)
 piece_length plan taken n (JoinDeletes at) = deletion_length * min list_piece (length plan.deleted.items - at)
@@ -141,3 +141,17 @@ IsShort plan n Vif = Unit {0}
 pub record AreShort (plan : Plan) (states : List FileState) (place : ℕ) : Type 0 where
   pub next : place ≤ joined_length plan
   pub lengths : (k : ℕ) (s : FileState) → slice_get states k ≡ Some s → is_behind s.stage ≡ true → IsShort plan s.length s.kind
+
+-- it has whole entries, pairs and deletions so far
+abbrev pub IsInUnits : Plan → ℕ → Kind → Type 0
+IsInUnits plan n Dat = (n - plan.info.dat_size) % deletion_length ≡ 0
+IsInUnits plan n Idx = Unit {0}
+IsInUnits plan n Cpd = Unit {0}
+IsInUnits plan n Cpx = Unit {0}
+IsInUnits plan n (Shard i) = Unit {0}
+IsInUnits plan n Ecx = n % 16 ≡ 0
+IsInUnits plan n Ecj = n % 16 ≡ 0
+IsInUnits plan n Vif = Unit {0}
+
+pub record AreInUnits (plan : Plan) (states : List FileState) : Type 0 where
+  pub units : (k : ℕ) (s : FileState) → slice_get states k ≡ Some s → is_behind s.stage ≡ true → IsInUnits plan s.length s.kind

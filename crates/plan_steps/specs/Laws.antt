@@ -33,3 +33,4 @@ pub mod PieceBounds
 pub mod Counting
 pub mod FromStart
 pub mod Bound
+pub mod Short

@@ -25,7 +25,7 @@ use Rattle.plan_steps.specs.Laws.RowPieces.{make_falls, piece_joins, piece_delet
 
 -- ---- kinds
 
-data_kind : (kind : Kind) → is_data kind ≡ true → kind ≡ Dat
+pub data_kind : (kind : Kind) → is_data kind ≡ true → kind ≡ Dat
 data_kind Dat e = refl
 data_kind Idx e = absurd (false≢true e)
 data_kind Cpd e = absurd (false≢true e)
@@ -35,7 +35,7 @@ data_kind Ecx e = absurd (false≢true e)
 data_kind Ecj e = absurd (false≢true e)
 data_kind Vif e = absurd (false≢true e)
 
-shard_kind : (kind : Kind) → is_shard kind ≡ true → (i : ℕ) × (kind ≡ Shard i)
+pub shard_kind : (kind : Kind) → is_shard kind ≡ true → (i : ℕ) × (kind ≡ Shard i)
 shard_kind Dat e = absurd (false≢true e)
 shard_kind Idx e = absurd (false≢true e)
 shard_kind Cpd e = absurd (false≢true e)
@@ -45,7 +45,7 @@ shard_kind Ecx e = absurd (false≢true e)
 shard_kind Ecj e = absurd (false≢true e)
 shard_kind Vif e = absurd (false≢true e)
 
-made_kind : (plan : Plan) (server : ℕ) (kind : Kind) → is_made_kind plan server kind ≡ true → (i : ℕ) × (kind ≡ Shard i)
+pub made_kind : (plan : Plan) (server : ℕ) (kind : Kind) → is_made_kind plan server kind ≡ true → (i : ℕ) × (kind ≡ Shard i)
 made_kind plan server Dat e = absurd (false≢true e)
 made_kind plan server Idx e = absurd (false≢true e)
 made_kind plan server Cpd e = absurd (false≢true e)
@@ -55,7 +55,7 @@ made_kind plan server Ecx e = absurd (false≢true e)
 made_kind plan server Ecj e = absurd (false≢true e)
 made_kind plan server Vif e = absurd (false≢true e)
 
-file_kind : (kind : Kind) (t : FileState) → same_kind t.kind kind ≡ true → t.kind ≡ kind
+pub file_kind : (kind : Kind) (t : FileState) → same_kind t.kind kind ≡ true → t.kind ≡ kind
 file_kind kind t e = (file_is t.server kind t (and_from (t.server == t.server) (same_kind t.kind kind) (eq-eqb t.server t.server refl) e)).1
 
 -- ---- what is left of a file
@@ -216,9 +216,9 @@ module _ (plan : Plan) (sized : IsSized plan) (place next taken : ℕ) where
   make_advances ratio encode row at t short goes =
       let both = and_parts (is_shard t.kind) (is_make row at (make_step plan.info t.length)) goes in
       let kind = shard_kind t.kind both.0 in
-      let falls : ShardFalls (Encode ratio) t.length (t.length + min widest_piece (block_of plan.info row - at)) = make_falls plan.info sized.geometry t.length row at both.1 in
+      let falls : ShardFalls (Encode ratio) t.length (t.length + min (min widest_piece (block_of plan.info row - at)) (whole_shard - t.length)) = make_falls plan.info sized.geometry t.length row at both.1 in
       subst (Comes plan place next t.length (t.length + piece_length plan taken t.length (MakePiece row at))) (sym kind.1)
-      (shard_comes kind.0 t.length (t.length + piece_length plan taken t.length (MakePiece row at)) (subst (λ c. ShardFalls c t.length (t.length + min widest_piece (block_of plan.info row - at))) (sym encode) falls) (subst (IsShort plan t.length) kind.1 short))
+      (shard_comes kind.0 t.length (t.length + piece_length plan taken t.length (MakePiece row at)) (subst (λ c. ShardFalls c t.length (t.length + min (min widest_piece (block_of plan.info row - at)) (whole_shard - t.length))) (sym encode) falls) (subst (IsShort plan t.length) kind.1 short))
 
   plain_shard : (c : Command) → is_encode c ≡ false → (n at : ℕ) → at ≡ n → ShardFalls c n (n + min widest_piece (whole_shard - at))
   plain_shard (Encode ratio) other n at is = absurd (false≢true (sym other))

@@ -55,9 +55,46 @@ module _ (info : Info) (range : GeometryInRange info.geometry) where
           let both = and_parts (rows + (n - part) / small == row) ((n - part) % small == at) is in
           inr (ltb-false n part less, blocks_small row (omega (arith, eqb-true (rows + (n - part) / small) row both.0)), sym (eqb-true ((n - part) % small) at both.1))
 
+  -- of a shard that isn't whole a piece lowers the count, and ends within it
+  pub record Makes (n c : ℕ) : Type 0 where
+    pub fewer : make_left info (n + c) < make_left info n
+    pub within : n + c ≤ shard_length info.geometry info.dat_size
+
+  pub make_piece : (n row at : ℕ) → is_make row at (make_step info n) ≡ true → n < shard_length info.geometry info.dat_size → Makes n (min widest_piece (block_of info row - at))
+  make_piece n row at is less = by_part (made_at n row at is)
+    where
+      in_large : (c : ℕ) → n < part → c ≡ min widest_piece (large - n % large) → Makes n c
+      in_large c inside is =
+          let low = block_lowers large rows n c some_large inside is in
+          let same : max part (n + c) ≡ max part n = omega (arith, low.within, inside) in
+          record {
+            fewer = omega (arith, low.fewer, ap (λ k. in_blocks small (shard_length info.geometry info.dat_size - k)) same);
+            within = omega (arith, low.within);
+          }
+
+      in_small : (c : ℕ) → part ≤ n → c ≡ min widest_piece (small - (n - part) % small) → Makes n c
+      in_small c behind is =
+          let low = block_lowers small (small_rows info.geometry info.dat_size) (n - part) c range.some_small (omega (arith, less, behind)) is in
+          let was = in_blocks_none large (part - n) some_large (omega (arith, behind)) in
+          let now = in_blocks_none large (part - (n + c)) some_large (omega (arith, behind)) in
+          let left : shard_length info.geometry info.dat_size - max part n ≡ small_rows info.geometry info.dat_size * small - (n - part) = omega (arith, behind) in
+          let after : shard_length info.geometry info.dat_size - max part (n + c) ≡ small_rows info.geometry info.dat_size * small - (n - part + c) = omega (arith, behind) in
+          record {
+            fewer = omega (arith, low.fewer, was, now, ap (in_blocks small) left, ap (in_blocks small) after);
+            within = omega (arith, low.within, behind);
+          }
+
+      by_part : IsMadeAt n row at → Makes n (min widest_piece (block_of info row - at))
+      by_part (inl (inside, size, place)) = in_large (min widest_piece (block_of info row - at)) inside (λ i. min widest_piece (size i - place i))
+      by_part (inr (behind, size, place)) = in_small (min widest_piece (block_of info row - at)) behind (λ i. min widest_piece (size i - place i))
+
+  -- so what is left of a shard never cuts one short
   pub make_falls : (n row at : ℕ) → is_make row at (make_step info n) ≡ true
-      → Falls (shard_length info.geometry info.dat_size) n (make_left info n) (make_left info (n + min widest_piece (block_of info row - at)))
-  make_falls n row at is = record { fewer = λ less. by_part less (made_at n row at is); none = λ more. over (min widest_piece (block_of info row - at)) more }
+      → Falls (shard_length info.geometry info.dat_size) n (make_left info n) (make_left info (n + min (min widest_piece (block_of info row - at)) (shard_length info.geometry info.dat_size - n)))
+  make_falls n row at is = record {
+    fewer = λ less. cut (min widest_piece (block_of info row - at)) (make_piece n row at is less);
+    none = λ more. over (min (min widest_piece (block_of info row - at)) (shard_length info.geometry info.dat_size - n)) more;
+  }
     where
       over : (c : ℕ) → shard_length info.geometry info.dat_size ≤ n → make_left info (n + c) ≡ 0
       over c more =
@@ -65,24 +102,10 @@ module _ (info : Info) (range : GeometryInRange info.geometry) where
           let second = in_blocks_none small (shard_length info.geometry info.dat_size - max part (n + c)) range.some_small (omega (arith, more)) in
           omega (arith, first, second)
 
-      in_large : (c : ℕ) → n < part → c ≡ min widest_piece (large - n % large) → make_left info (n + c) < make_left info n
-      in_large c inside is =
-          let low = block_lowers large rows n c some_large inside is in
-          let same : max part (n + c) ≡ max part n = omega (arith, low.within, inside) in
-          omega (arith, low.fewer, ap (λ k. in_blocks small (shard_length info.geometry info.dat_size - k)) same)
-
-      in_small : (c : ℕ) → part ≤ n → n < shard_length info.geometry info.dat_size → c ≡ min widest_piece (small - (n - part) % small) → make_left info (n + c) < make_left info n
-      in_small c behind less is =
-          let low = block_lowers small (small_rows info.geometry info.dat_size) (n - part) c range.some_small (omega (arith, less, behind)) is in
-          let was = in_blocks_none large (part - n) some_large (omega (arith, behind)) in
-          let now = in_blocks_none large (part - (n + c)) some_large (omega (arith, behind)) in
-          let left : shard_length info.geometry info.dat_size - max part n ≡ small_rows info.geometry info.dat_size * small - (n - part) = omega (arith, behind) in
-          let after : shard_length info.geometry info.dat_size - max part (n + c) ≡ small_rows info.geometry info.dat_size * small - (n - part + c) = omega (arith, behind) in
-          omega (arith, low.fewer, was, now, ap (in_blocks small) left, ap (in_blocks small) after)
-
-      by_part : n < shard_length info.geometry info.dat_size → IsMadeAt n row at → make_left info (n + min widest_piece (block_of info row - at)) < make_left info n
-      by_part less (inl (inside, size, place)) = in_large (min widest_piece (block_of info row - at)) inside (λ i. min widest_piece (size i - place i))
-      by_part less (inr (behind, size, place)) = in_small (min widest_piece (block_of info row - at)) behind less (λ i. min widest_piece (size i - place i))
+      cut : (c : ℕ) → Makes n c → make_left info (n + min c (shard_length info.geometry info.dat_size - n)) < make_left info n
+      cut c makes =
+          let same : n + min c (shard_length info.geometry info.dat_size - n) ≡ n + c = omega (arith, makes.within) in
+          omega (arith, ap (make_left info) same, makes.fewer)
 
   -- ---- the data file
 

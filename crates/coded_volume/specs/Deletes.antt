@@ -1,5 +1,5 @@
 -- What a deletion does to a coded volume.
-use Rattle.std.specs.Prelude.{◌≡◌, ◌⊎◌, ℕ, ◌+◌, ◌*◌, ◌^◌, ◌<◌, ◌≤◌, Bool, false, nat_eq, List, [], ◌∷◌, ◌++◌, length, map, Some, Contains, Result, IfErr, IsErrOf}
+use Rattle.std.specs.Prelude.{◌≡◌, ◌⊎◌, ℕ, ◌+◌, ◌*◌, ◌<◌, ◌≤◌, Bool, false, nat_eq, List, [], ◌∷◌, ◌++◌, length, map, Some, Contains, Result, IfErr, IsErrOf}
 use Rattle.std.specs.List.{AllByRecursion}
 use Rattle.world_model.specs.Sizes.{deletion_length, max_dat}
 use Rattle.site_model.specs.Disk.{Place, Files, IsFirm, bytes_of, Disk}

@@ -1,9 +1,14 @@
 //! A coded volume: its needles are read from its shards, and their deletions stand in journals.
 #![tactic(auto)]
 
+mod checking;
 mod deleting;
+mod opening;
+mod reading;
+mod searching;
 mod volume;
 
+pub use checking::{Checked, ShardCopy, check};
 pub use volume::CodedVolume;
 
 #[cfg(test)]

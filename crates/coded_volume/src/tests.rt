@@ -1,6 +1,11 @@
 //! Deletions on a volume of 3 and 2 shards, at the first four of five servers in memory.
 ghost use Rattle.std.specs.Prelude.{◌≡◌, ◌<◌, ◌≤◌};
 ghost use Rattle.site_mem.specs.Site.{counts_at};
+ghost use Rattle.stripe_layout.specs.Stripes.{GeometryInRange};
+ghost use Rattle.world_model.specs.declared.types.Ratio.TheVariants.{ThreeTwo};
+
+mod opening;
+mod reading;
 
 use crate::CodedVolume;
 use dat_volume::VolumeFault;
@@ -39,7 +44,9 @@ const CALLS: u64 = 16;
 const MOST_USED: u64 = 1 << 35;
 
 fn info() -> Info
-    ensures { result.dat_size ≡ 56 }
+    ensures dat_size { result.dat_size ≡ 56 }
+    ensures range { GeometryInRange result.geometry }
+    ensures ratio { result.geometry.ratio ≡ ThreeTwo }
 {
     Info {
         dat_size: 56,

@@ -3,6 +3,7 @@ ghost use Rattle.std.specs.Prelude.{◌≡◌, ◌+◌, ◌*◌, ◌^◌, ◌<�
 ghost use Rattle.world_model.specs.Sizes.{deletion_length, max_dat};
 ghost use Rattle.wire_num.specs.Laws.Pair.{AreIds};
 ghost use Rattle.image_meaning.specs.Meaning.{max_volumes};
+ghost use Rattle.stripe_layout.specs.Stripes.{GeometryInRange};
 
 use crate::deleting::append_everywhere;
 use dat_volume::VolumeFault;
@@ -16,20 +17,23 @@ use world_model::limits::DELETION_LENGTH;
 /// A coded volume: what its text says, and the ids that are deleted, in the order of the journals.
 #[derive(Debug, Drop)]
 pub struct CodedVolume {
-    volume: u32,
-    info: Info,
-    deleted: Vec<u64>,
+    pub(crate) volume: u32,
+    pub(crate) info: Info,
+    pub(crate) deleted: Vec<u64>,
     ghost room: { info.dat_size + deletion_length * length deleted.items ≤ max_dat },
+    ghost range: { GeometryInRange info.geometry },
 }
 
 impl CodedVolume {
     ghost use Rattle.std.specs.Prelude.{◌≡◌, ◌+◌, ◌*◌, ◌^◌, ◌<◌, ◌≤◌, ◌∷◌, ◌++◌, [], ℕ, IsTrue, IsErrOf, MatchResult, OnOk, length};
     ghost use Rattle.shard_table.specs.Table.{row_of};
+    ghost use Rattle.stripe_layout.specs.Stripes.{GeometryInRange};
     ghost use Rattle.coded_volume.specs.Deletes.{CanStart, Deletes, IsDeleted, KeepsVolume, WritesAnywhere};
 
     /// A volume of which no id is deleted. It takes no memory.
     pub fn fresh(alloc: Global, volume: u32, info: Info) -> CodedVolume
-        requires { info.dat_size ≤ max_dat }
+        requires dat_size { info.dat_size ≤ max_dat }
+        requires range { GeometryInRange info.geometry }
         ensures volume { result.volume ≡ volume }
         ensures info { result.info ≡ info }
         ensures none { result.deleted.items ≡ [] }

@@ -11,7 +11,7 @@ use crate::CodedVolume;
 use crate::tests::opening::standing::is_coded_as;
 use shard_table::ShardTable;
 use site_mem::MemSite;
-use site_model::{OpenFault, Site};
+use site_model::OpenFault;
 use std::alloc::Global;
 use std::process::Abort;
 use std::test::Fail;
@@ -334,17 +334,6 @@ fn a_shard_beyond_the_ratio_is_unsound(rt: HostRuntime) -> Result<(), Fail> {
     placed.put(2, "7.ec14", &SHARDS[0])?;
     placed.table.set(VOLUME, 14, Some(2));
     assert_eq!(rt; placed.told(&rt, alloc)?, Some(unsound(6)));
-    Ok(())
-}
-
-#[test]
-fn a_text_that_is_absent_is_unsound(rt: HostRuntime) -> Result<(), Fail> {
-    let alloc = rt.alloc();
-    for (name, rule) in [(TEXT, 4), (INDEX, 5), (JOURNAL, 8)] {
-        let mut placed = Placed::new(alloc)?;
-        assert!(rt; placed.site.remove(1, name).is_ok());
-        assert_eq!(rt; placed.told(&rt, alloc)?, Some(unsound(rule)), "{name}");
-    }
     Ok(())
 }
 

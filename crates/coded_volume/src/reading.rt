@@ -221,7 +221,8 @@ impl CodedVolume {
 fn check_end(place: Place, dat_size: u64) -> Result<(), GetFault>
     requires fits { place.at + place.length < 2 ^ 64 }
     ensures within { OnOk result (place.at + place.length ≤ dat_size) }
-    ensures told { IfErr result (λ fault. (fault ≡ GetFault.Damaged What.End (place.at + place.length) dat_size)
+    ensures told { IfErr result (λ fault.
+        (fault ≡ GetFault.Damaged What.End (place.at + place.length) dat_size)
         × (dat_size < place.at + place.length)) }
 {
     let end = place.at + place.length;

@@ -45,7 +45,8 @@ fn append_piece<T: Site>(
     requires pieces { length pieces.now ≡ count_of names.now * size }
     requires shard { shard < count_of names.now }
     ensures done { OnOk result (IsTrue T.tells → (T.disk site.new).files (shard_place names.now shard)
-        ≡ Some (grown ((T.disk site.old).files (shard_place names.now shard)) (piece_in pieces.now size shard))) }
+        ≡ Some (grown ((T.disk site.old).files (shard_place names.now shard))
+        (piece_in pieces.now size shard))) }
     ensures effect { IsTrue T.tells → Appends (shard_place names.now shard) (piece_in pieces.now size shard)
         (T.disk site.old) (T.disk site.new) }
     ensures counts { CountsWrite (shard_place names.now shard).0 size (T.counts site.old) (T.counts site.new)

@@ -1,8 +1,7 @@
 -- What the store knows of a plan that runs, had from what plans say of themselves.
-use Rattle.std.proofs.Common.{◌≡◌, ◌≢◌, ℕ, ◌<◌, List, ◌++◌, Some, refl, sym, ◌∙◌, ap, subst}
+use Rattle.std.proofs.Common.{◌≡◌, ◌≢◌, List, ◌++◌, Some}
 use Rattle.site_model.specs.Disk.{Disk}
 use Rattle.site_model.specs.Leaves.{Leaves}
-use Rattle.site_model.specs.Touches.{Touches}
 use Rattle.world_model.specs.World.{Volume}
 use Rattle.world_model.specs.declared.types.Command.TheVariants.{Decode}
 use Rattle.needle_record.specs.Records.{Placed, records}
@@ -11,7 +10,7 @@ use Rattle.image_meaning.specs.Files.{files_of}
 use Rattle.image_meaning.specs.Coded.{dat_of}
 use Rattle.image_meaning.specs.Meaning.{volume_of}
 use Rattle.image_meaning.specs.Near.{IsUnderway}
-use Rattle.image_meaning.specs.Share.{Share, share_of, finals, IsFirmShare, IsOfVolume}
+use Rattle.image_meaning.specs.Share.{Share, share_of, finals, IsFirmShare}
 use Rattle.image_meaning.specs.Shards.{KeepsCopies}
 use Rattle.plan_steps.specs.declared.plan.Plan.{Plan}
 use Rattle.plan_steps.specs.Planned.{deletions}

@@ -15,6 +15,7 @@ pub mod Members
 pub mod DecodeEnd
 pub mod EncodeEnd
 pub mod MendList
+pub mod MendEnd
 pub mod Walk
 pub mod May
 pub mod Next

@@ -1,5 +1,5 @@
 -- What the store knows of a plan that runs, had from what plans say of themselves.
-use Rattle.std.proofs.Common.{◌≡◌, ◌≢◌, List, ◌++◌, Some}
+use Rattle.std.proofs.Common.{◌≡◌, ◌≢◌, ℕ, ◌+◌, ◌*◌, ◌≤◌, List, ◌++◌, Some}
 use Rattle.site_model.specs.Disk.{Disk}
 use Rattle.site_model.specs.Leaves.{Leaves}
 use Rattle.world_model.specs.World.{Volume}
@@ -18,6 +18,9 @@ use Rattle.plan_steps.specs.Legal.{FitsPlaces}
 use Rattle.plan_steps.specs.Runs.{StepKeeps}
 use Rattle.plan_steps.specs.Progressing.{Running, Follows}
 use Rattle.plan_steps.specs.Laws.Progress.{progress_firm}
+use Rattle.plan_steps.specs.Plans.{IsPlan}
+use Rattle.plan_steps.specs.Left.{left_of}
+use Rattle.plan_steps.specs.Laws.Used.{left_below}
 use Rattle.plan_steps.specs.Laws.Underway.{progress_underway, step_underway}
 use Rattle.plan_steps.specs.Told as store
 
@@ -37,6 +40,10 @@ module _ (r : Running) (row : Row) (start now : Share) (follows : Follows r row 
   -- the volume is what it was, in the one form or the other
   pub underway : (vol : Volume) → volume_of (finals start) ≡ Some vol → IsUnderway (told r.plan).command vol (finals now)
   underway vol means = progress_underway follows.w follows.f r row start now follows.fits vol means
+
+  -- no more steps are left than a job has lines for them
+  pub bound : (servers : ℕ) → IsPlan r.plan servers → (vol : Volume) → volume_of (finals start) ≡ Some vol → left_of r.plan r.states r.place ≤ 32 * vol.used + 999999
+  bound servers is vol means = left_below follows.w follows.f r row start now follows.fits vol means servers is
 
   -- files under their final names are firm where they were
   pub firm : IsFirmShare start → IsFirmShare now

@@ -47,33 +47,33 @@ unfolding pairs pairs_within
 no_pairs = refl
 
 -- the list of an encode
-encode_list : (plan : Plan) (c : Command) → is_encode c ≡ true → list_by plan c ≡ encode_names (filter (is_target plan) all_servers) plan.targets.items plan.home
+pub encode_list : (plan : Plan) (c : Command) → is_encode c ≡ true → list_by plan c ≡ encode_names (filter (is_target plan) all_servers) plan.targets.items plan.home
 encode_list plan (Encode ratio) e = refl
 encode_list plan Rebuild e = absurd (true≢false (sym e))
 encode_list plan Balance e = absurd (true≢false (sym e))
 encode_list plan Decode e = absurd (true≢false (sym e))
 
 -- which file is in it: one of those beside shards at a target, a shard at its target, or an old file
-abbrev IsEncoded : Plan → ℕ → Kind → Type 0
+abbrev pub IsEncoded : Plan → ℕ → Kind → Type 0
 IsEncoded plan server kind = ((is_target plan server ≡ true) × ((kind ≡ Vif) ⊎ (kind ≡ Ecx))) ⊎ (((i : ℕ) × (kind ≡ Shard i) × Has plan.targets.items (i, server)) ⊎ ((server ≡ plan.home) × ((kind ≡ Idx) ⊎ (kind ≡ Dat))))
 
 module _ (plan : Plan) where
-  abbrev servers_of : List ℕ
+  abbrev pub servers_of : List ℕ
   servers_of = filter (is_target plan) all_servers
 
-  abbrev texts : List (ℕ × Kind)
+  abbrev pub texts : List (ℕ × Kind)
   texts = map (λ s. (s, Vif)) servers_of
 
-  abbrev indexes : List (ℕ × Kind)
+  abbrev pub indexes : List (ℕ × Kind)
   indexes = map (λ s. (s, Ecx)) servers_of
 
-  abbrev shards : List (ℕ × Kind)
+  abbrev pub shards : List (ℕ × Kind)
   shards = shard_names plan.targets.items
 
-  abbrev ends : List (ℕ × Kind)
+  abbrev pub ends : List (ℕ × Kind)
   ends = (plan.home, Idx) ∷ (plan.home, Dat) ∷ []
 
-  by_names : (server : ℕ) (kind : Kind) → Has (texts ++ (indexes ++ (shards ++ ends))) (server, kind) → IsEncoded plan server kind
+  pub by_names : (server : ℕ) (kind : Kind) → Has (texts ++ (indexes ++ (shards ++ ends))) (server, kind) → IsEncoded plan server kind
   by_names server kind has = ⊎_elim
       (λ text.
       let found = map_has (λ s. (s, Vif)) servers_of (server, kind) text in

@@ -33,4 +33,5 @@ pub mod PieceBounds
 pub mod Counting
 pub mod FromStart
 pub mod Bound
+pub mod Used
 pub mod Short

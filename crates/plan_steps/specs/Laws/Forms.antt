@@ -121,12 +121,12 @@ deletions_join (id ∷ ids) dat whole fits room =
 -- ---- the forms
 
 -- all records of a whole data file use its length
-used_whole : (dat : List ℕ) → IsWholeDat dat → (fold_records (records dat)).used ≡ length dat
+pub used_whole : (dat : List ℕ) → IsWholeDat dat → (fold_records (records dat)).used ≡ length dat
 used_whole dat whole =
     ap (λ ps. (fold_records ps).used) (sym (take_all (length (records dat)) (records dat) (omega arith)))
     ∙ fold_records-used dat (length (records dat)) whole.super ∙ ap end_of (take_all (length (records dat)) (records dat) (omega arith)) ∙ whole.to_end
 
-parts_whole : (t : Parts) → AreSoundParts t → IsWholeDat t.dat
+pub parts_whole : (t : Parts) → AreSoundParts t → IsWholeDat t.dat
 parts_whole t good = record { super = has_super-long t.dat good.super; to_end = good.to_end }
 
 -- A decode: the shards' file with the deletions behind it means what the shards and the journal mean.

@@ -42,11 +42,11 @@ in_form : (u vol : Volume) (form : Mode) → u.used ≡ vol.used → u.needles �
 in_form u vol form used needles mode_is = λ i. record { mode = mode_is i; used = used i; needles = needles i }
 
 -- what the files meant at the start
-record IsOf (w : Volume) (f : Forms) (vol : Volume) : Type 0 where
-  same : IsSameVolume w vol
-  was_coded : f.changes ≡ false → vol.mode ≡ mode.Coded
+pub record IsOf (w : Volume) (f : Forms) (vol : Volume) : Type 0 where
+  pub same : IsSameVolume w vol
+  pub was_coded : f.changes ≡ false → vol.mode ≡ mode.Coded
 
-of_start : (w : Volume) (f : Forms) (start : VolumeFiles) (vol : Volume) → AreForms w f → HasAForm f start → volume_of start ≡ Some vol → IsOf w f vol
+pub of_start : (w : Volume) (f : Forms) (start : VolumeFiles) (vol : Volume) → AreForms w f → HasAForm f start → volume_of start ≡ Some vol → IsOf w f vol
 of_start w f start vol forms (inl (changes, kept)) means =
     let is : fold_records f.kept ≡ vol = some_is (fold_records f.kept) vol (sym (kept_plain_means f.kept start kept) ∙ means) in
     record { same = subst (IsSameVolume w) is (forms.plain changes); was_coded = λ e. absurd (true≢false (sym changes ∙ e)) }

@@ -228,7 +228,7 @@ module _ (plan : Plan) (decode : plan.command ≡ Decode) (home : plan.home < ma
 -- ---- any plan
 
 module _ (plan : Plan) (servers : ℕ) (is : IsPlan plan servers) where
-  mend_fills : (c : Command) → IsPlanBy servers plan c → (c ≡ Rebuild) ⊎ (c ≡ Balance) → (mend : IsMendPlan servers plan) × Fills servers plan mend.row
+  pub mend_fills : (c : Command) → IsPlanBy servers plan c → (c ≡ Rebuild) ⊎ (c ≡ Balance) → (mend : IsMendPlan servers plan) × Fills servers plan mend.row
   mend_fills c made (inl e) = let by : IsPlanBy servers plan Rebuild = subst (IsPlanBy servers plan) e made in (by.0, rebuild_fills plan servers by.0.row by.0.placed by.1)
   mend_fills c made (inr e) = let by : IsPlanBy servers plan Balance = subst (IsPlanBy servers plan) e made in (by.0, balance_fills plan servers by.0.row by.0.placed by.1)
 

@@ -1,22 +1,19 @@
 -- A rebuild and a balance leave shards enough to be read, at each progress and on every site. For the store with jobs, to come.
-use Rattle.std.proofs.Common.{◌≡◌, ◌⊎◌, inl, inr, ⊎_elim, ℕ, ◌+◌, ◌<◌, ◌≤◌, Bool, true, false, cond, List, [], ◌∷◌, ◌++◌, length, Option, Some, None, is_some, refl, sym, ◌∙◌, ap, subst, arith, length-append}
+use Rattle.std.proofs.Common.{◌≡◌, ◌⊎◌, inl, inr, ⊎_elim, ℕ, ◌<◌, ◌≤◌, Bool, true, false, cond, List, [], ◌∷◌, ◌++◌, length, Option, Some, None, is_some, refl, sym, ◌∙◌, ap, subst, arith}
 use Rattle.std.specs.Prelude.{filter, flat_map, slice_get}
 use mathlib.Core.Bool.{true≢false}
 use Rattle.std.proofs.lemmas.Bool.{cases_lt, le-leb}
-use Rattle.world_model.specs.declared.types.Command.TheVariants.{Rebuild, Balance}
 use Rattle.world_model.specs.Ratios.{data_count}
 use Rattle.file_names.specs.declared.Kind.{Kind}
 use Rattle.file_names.specs.declared.Kind.TheVariants.{Idx, Shard}
-use Rattle.stripe_layout.specs.Stripes.{shards_in_all}
 use Rattle.shard_table.specs.Table.{Row, place_in}
-use Rattle.plan_steps.specs.declared.plan.Stage.TheVariants.{Registered}
 use Rattle.plan_steps.specs.declared.plan.FileState.{FileState}
 use Rattle.plan_steps.specs.Listed.{IsListed, listed_or_other}
 use Rattle.plan_steps.specs.Legal.{IsFound, HasFile}
-use Rattle.plan_steps.specs.Order.{Names, names_of, IsBefore, HasIndexBefore, IsElsewhereBefore}
+use Rattle.plan_steps.specs.Order.{Names, HasIndexBefore, IsElsewhereBefore}
 use Rattle.plan_steps.specs.Laws.Order.{named_at, name_at}
 use Rattle.plan_steps.specs.Lists.{mend_names, list_by, list_of}
-use Rattle.plan_steps.specs.Plans.{all_numbers, place_if, places_of, IsPlan, IsPlaced}
+use Rattle.plan_steps.specs.Plans.{all_numbers, place_if, IsPlan, IsPlaced}
 use Rattle.plan_steps.specs.Laws.List.{mend_fills, list_goes}
 use Rattle.plan_steps.specs.Members.{Has, at_has}
 use Rattle.plan_steps.specs.MendList.{place_short, place_found, IsBesideKind, GetsFirst, IsMoveOf, in_mend}

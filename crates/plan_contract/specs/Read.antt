@@ -1,21 +1,19 @@
--- What a get reads while a plan runs: one that hasn't ended leaves the volume to be read as it was. For the store with jobs,
--- to come; of a decode it isn't shown yet.
-use Rattle.std.proofs.Common.{◌≡◌, ◌⊎◌, inl, inr, ⊎_elim, ℕ, ◌+◌, ◌<◌, ◌≤◌, Bool, true, false, List, [], ◌∷◌, ◌++◌, length, Option, Some, None, refl, sym, ◌∙◌, ap, subst, arith, append_assoc, length-append}
+-- What a get reads while an encode, a rebuild or a balance runs. For the store with jobs, to come.
+use Rattle.std.proofs.Common.{◌≡◌, inl, inr, ⊎_elim, ℕ, ◌+◌, ◌<◌, ◌≤◌, Bool, true, false, List, [], ◌∷◌, ◌++◌, length, Some, refl, sym, ◌∙◌, ap, subst, arith, append_assoc, length-append}
 use Rattle.std.specs.Prelude.{filter, map, slice_get, option_map, if◌then◌else◌}
 use mathlib.Core.Bool.{true≢false}
 use Rattle.std.proofs.lemmas.Bool.{cases_lt, eq-eqb}
-use Rattle.image_meaning.specs.Laws.Options.{some_is}
 use Rattle.site_model.specs.Disk.{File, firm_file}
 use Rattle.site_model.specs.Disk as disk
 use Rattle.file_names.specs.declared.Kind.{Kind}
-use Rattle.file_names.specs.declared.Kind.TheVariants.{Dat, Idx, Shard, Ecx, Vif}
+use Rattle.file_names.specs.declared.Kind.TheVariants.{Dat, Idx, Ecx, Vif}
 use Rattle.shard_table.specs.Table.{Row}
 use Rattle.image_meaning.specs.Files.{VolumeFiles, all_servers}
 use Rattle.image_meaning.specs.Ends.{changes_form}
 use Rattle.image_meaning.specs.HeldParts.{held_made, held_all}
 use Rattle.image_meaning.specs.Laws.Part.{made_info, made_dat}
 use Rattle.image_meaning.specs.Share.{Share, finals}
-use Rattle.plan_steps.specs.declared.plan.Stage.TheVariants.{Registered, Gone}
+use Rattle.plan_steps.specs.declared.plan.Stage.TheVariants.{Registered}
 use Rattle.plan_steps.specs.declared.plan.FileState.{FileState}
 use Rattle.plan_steps.specs.Kept.{HasAForm, IsKeptCoded}
 use Rattle.plan_steps.specs.Laws.Kept.{kept_coded_rules}
@@ -23,11 +21,10 @@ use Rattle.plan_steps.specs.Planned.{is_encode, is_found, planned, given}
 use Rattle.plan_steps.specs.Laws.Found.{encode_finds}
 use Rattle.plan_steps.specs.Fitting.{StandsBy}
 use Rattle.plan_steps.specs.Listed.{IsListed, listed_or_other}
-use Rattle.plan_steps.specs.Legal.{IsFound, IsNew}
-use Rattle.plan_steps.specs.Laws.Legal.{by_bool}
+use Rattle.plan_steps.specs.Legal.{IsFound}
 use Rattle.plan_steps.specs.Order.{Names, names_of, IsReached}
 use Rattle.plan_steps.specs.Laws.Order.{named_at, name_at}
-use Rattle.plan_steps.specs.Lists.{is_target, shard_names, encode_names, list_of}
+use Rattle.plan_steps.specs.Lists.{is_target, shard_names, list_of}
 use Rattle.plan_steps.specs.Members.{Has, at_has, get_front, get_behind}
 use Rattle.plan_steps.specs.Walk.{is_last_stage, is_finished, AreFinished}
 use Rattle.plan_steps.specs.Laws.Next.{no_step_ends}

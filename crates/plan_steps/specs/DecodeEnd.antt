@@ -34,13 +34,13 @@ use Rattle.plan_steps.specs.Laws.End.{IsOver, end_new, end_stands, row_none}
 use Rattle.plan_steps.specs.Progressing.{Running, FitsProgress}
 
 module _ (plan : Plan) (decode : plan.command ≡ Decode) where
-  abbrev found_names : List (ℕ × Kind)
+  abbrev pub found_names : List (ℕ × Kind)
   found_names = shard_names plan.places.items ++ flat_map left_names (filter (held plan) all_servers)
 
-  list_is : list_of plan ≡ decode_names plan.home found_names
+  pub list_is : list_of plan ≡ decode_names plan.home found_names
   list_is = ap (list_by plan) decode
 
-  finds : (server : ℕ) (kind : Kind) → is_found plan plan.command server kind ≡ is_found_coded plan server kind
+  pub finds : (server : ℕ) (kind : Kind) → is_found plan plan.command server kind ≡ is_found_coded plan server kind
   finds server kind = ap (λ c. is_found plan c server kind) decode
 
   -- ---- all that was found is in the list
@@ -68,7 +68,7 @@ module _ (plan : Plan) (decode : plan.command ≡ Decode) where
   found_by server Ecj below e = beside_listed server Ecj below e (inr (inl refl))
   found_by server Vif below e = beside_listed server Vif below e (inr (inr (inl refl)))
 
-  found_listed : (server : ℕ) (kind : Kind) → server < max_servers → IsFound plan server kind → Has (list_of plan) (server, kind)
+  pub found_listed : (server : ℕ) (kind : Kind) → server < max_servers → IsFound plan server kind → Has (list_of plan) (server, kind)
   found_listed server kind below found = subst (λ (names : List (ℕ × Kind)). Has names (server, kind)) (sym list_is) (inr (inr (found_by server kind below (sym (finds server kind) ∙ found))))
 
   -- ---- and what it writes are the two files
@@ -92,7 +92,7 @@ module _ (plan : Plan) (decode : plan.command ≡ Decode) where
       by_name s e (inr (inr (inl same))) = subst (λ (p : ℕ × Kind). is_found_coded plan p.0 p.1 ≡ true) same e
       by_name s e (inr (inr (inr none))) = absurd none
 
-  new_listed : (server : ℕ) (kind : Kind) → Has (list_of plan) (server, kind) → IsNew plan server kind → (server ≡ plan.home) × ((kind ≡ Idx) ⊎ (kind ≡ Dat))
+  pub new_listed : (server : ℕ) (kind : Kind) → Has (list_of plan) (server, kind) → IsNew plan server kind → (server ≡ plan.home) × ((kind ≡ Idx) ⊎ (kind ≡ Dat))
   new_listed server kind has new = by_place (subst (λ (names : List (ℕ × Kind)). Has names (server, kind)) list_is has)
     where
       by_place : Has (decode_names plan.home found_names) (server, kind) → (server ≡ plan.home) × ((kind ≡ Idx) ⊎ (kind ≡ Dat))
@@ -112,7 +112,7 @@ module _ (plan : Plan) (decode : plan.command ≡ Decode) where
   -- ---- the start
 
   -- the volume was coded
-  start_coded : (f : Forms) (start : VolumeFiles) → BeginsPlan f plan start → IsKeptCoded f.parts start
+  pub start_coded : (f : Forms) (start : VolumeFiles) → BeginsPlan f plan start → IsKeptCoded f.parts start
   start_coded f start begins = coded_where f start begins.kept (lowest-all_fail (has_index start) (λ s below.
       ap is_some (index_named start s (ap is_some (none s Cpx below tt refl)) ∙ none s Idx below tt refl)))
     where

@@ -1,4 +1,5 @@
 pub mod Kept
+pub mod Rules
 pub mod Change
 pub mod Allowed
 pub mod Run

@@ -46,7 +46,7 @@ IsInList r server kind = Has (list_of r.plan) (server, kind)
 module _ (w : Volume) (f : Forms) (r : Running) (row : Row) (start now : Share) (fits : FitsProgress w f r row start now) where
   -- ---- names and states
 
-  in_states : (server : ℕ) (kind : Kind) → IsInList r server kind → IsListed r.states server kind
+  pub in_states : (server : ℕ) (kind : Kind) → IsInList r server kind → IsListed r.states server kind
   in_states server kind has =
       let place = has_at (list_of r.plan) (server, kind) has in
       let found = named_at (λ (s : FileState). (s.server, s.kind)) r.states place.0 (server, kind) (ap (λ names. slice_get names place.0) fits.way.listed ∙ place.1) in
@@ -56,7 +56,7 @@ module _ (w : Volume) (f : Forms) (r : Running) (row : Row) (start now : Share) 
   in_list server kind (j, s, at, a, b) =
       at_has (list_of r.plan) j (server, kind) (ap (λ names. slice_get names j) (sym fits.way.listed) ∙ name_at (λ (s : FileState). (s.server, s.kind)) r.states j s at ∙ (λ i. Some (a i, b i)))
 
-  not_in_list : (server : ℕ) (kind : Kind) → IsOther r.states server kind → IsInList r server kind → ⊥
+  pub not_in_list : (server : ℕ) (kind : Kind) → IsOther r.states server kind → IsInList r server kind → ⊥
   not_in_list server kind other has = let l = in_states server kind has in other l.0 l.1 l.2 l.3 l.4
 
   not_in_states : (server : ℕ) (kind : Kind) → (IsInList r server kind → ⊥) → IsOther r.states server kind

@@ -360,6 +360,20 @@ impl DatVolume {
         Ok(Some(cookie))
     }
 
+    /// The server at which it stands.
+    pub fn server(&self) -> u32
+        ensures { result ≡ self.now.server }
+    {
+        self.server
+    }
+
+    /// The number of the volume.
+    pub fn volume(&self) -> u32
+        ensures { result ≡ self.now.volume }
+    {
+        self.volume
+    }
+
     /// The length of the data file.
     pub fn used(&self) -> u64
         ensures { result ≡ self.now.used }
@@ -372,6 +386,15 @@ impl DatVolume {
         ensures { result.now ≡ self.now.index }
     {
         &self.index
+    }
+
+    /// Sets the index and the length, of the files that its two files were replaced by.
+    pub fn replace(&mut self, index: NeedleMap, used: u64)
+        ensures { self.new
+            ≡ record { server = self.old.server; volume = self.old.volume; index = index; used = used } }
+    {
+        self.index = index;
+        self.used = used;
     }
 
     /// The volume with this index and this length. It is the one that an opening gives where the files have them.

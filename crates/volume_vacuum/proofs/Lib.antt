@@ -1,0 +1,10 @@
+mod Rows
+mod Entries
+mod Sorted
+mod Laid
+mod Checked
+mod Copied
+mod Apart
+mod Held
+mod Renames
+mod Whole

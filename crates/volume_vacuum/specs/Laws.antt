@@ -1,0 +1,4 @@
+pub mod Lives
+pub mod Needles
+pub mod Moves
+pub mod Held

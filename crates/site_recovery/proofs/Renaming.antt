@@ -1,5 +1,5 @@
 -- What a rename leaves, and the two renames of what a vacuum made.
-use Rattle.std.proofs.Common.{◌≡◌, ◌≢◌, ◌⊎◌, inl, inr, ⊎_elim, ℕ, ◌<◌, true, false, Option, Some, None, is_some, List, IsTrue, refl, sym, ◌∙◌, ap, subst}
+use Rattle.std.proofs.Common.{◌≡◌, ◌≢◌, ◌⊎◌, inl, inr, ⊎_elim, ℕ, ◌<◌, false, Option, Some, None, is_some, List, IsTrue, refl, sym, ◌∙◌, ap, subst}
 use Rattle.std.specs.Prelude.{unwrap_or, []}
 use Rattle.std.proofs.lemmas.Bool.{cases_eq}
 use Rattle.site_model.specs.Disk.{Place, Files, Image, IsFirm, LeftOf, LeftOfAll, IsRenamed, Renames, Disk, IsSettled}

@@ -2,7 +2,7 @@
 use Rattle.std.specs.Prelude.{◌≡◌, ◌⊎◌, ℕ, ◌<◌, Bool, IsSome, List, [], map, take, Option, Some, None, Contains, ◌↔◌}
 use Rattle.std.specs.List.Sorted.{IsStrictlyIncreasing}
 use Rattle.std.specs.FinMap.{empty}
-use Rattle.site_model.specs.Disk.{Place, Files, Image, IsFirm, Disk, IsSettled}
+use Rattle.site_model.specs.Disk.{Place, Files, Image, Disk, IsSettled}
 use Rattle.site_model.specs.Leaves.{Leaves}
 use Rattle.site_model.specs.Touches.{Touches}
 use Rattle.site_model.specs.declared.error.OpenFault.{OpenFault}
@@ -11,9 +11,9 @@ use Rattle.world_model.specs.World.{Volume}
 use Rattle.world_model.specs.declared.types.Mode.{Mode}
 use Rattle.world_model.specs.declared.types.Mode.TheVariants as mode
 use Rattle.file_names.specs.declared.Kind.{Kind}
-use Rattle.file_names.specs.declared.Kind.TheVariants.{Dat, Idx, Shard, Ecx, Ecj, Vif, Cpd, Cpx}
-use Rattle.file_names.specs.Names.{IsKind, max_shards, place_of, IsCodedKind}
-use Rattle.image_meaning.specs.Files.{VolumeFiles, contents, files_of, temps_of, bytes_at, index_at, dat_at, index_bytes, dat_bytes}
+use Rattle.file_names.specs.declared.Kind.TheVariants.{Dat, Idx}
+use Rattle.file_names.specs.Names.{IsKind, place_of, IsCodedKind}
+use Rattle.image_meaning.specs.Files.{VolumeFiles, contents, files_of, temps_of, index_at, dat_at, index_bytes, dat_bytes}
 use Rattle.image_meaning.specs.Plain.{index_home}
 use Rattle.image_meaning.specs.Meaning.{mode_of, volume_in, max_volumes}
 use Rattle.image_meaning.specs.Sound.{IsSound, IsPlain, KeepsRule, KeepsRecords, Stands}

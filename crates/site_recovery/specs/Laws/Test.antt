@@ -11,7 +11,7 @@ use Rattle.site_model.specs.Disk as disk
 use Rattle.world_model.specs.declared.types.Mode.{Mode}
 use Rattle.world_model.specs.declared.types.Mode.TheVariants as mode
 use Rattle.wire_num.specs.Laws.Number.{AreBytes, bytes_take, bytes_drop}
-use Rattle.file_names.specs.declared.Kind.TheVariants.{Dat, Idx, Shard}
+use Rattle.file_names.specs.declared.Kind.TheVariants.{Shard}
 use Rattle.file_names.specs.Names.{max_shards, place_of}
 use Rattle.volume_forms.specs.Forms.{entries, entries_within, entry_at, entry_bytes}
 use Rattle.volume_forms.specs.Laws.Entry.{length-entries, entry_at-spelled}

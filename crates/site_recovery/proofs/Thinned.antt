@@ -4,26 +4,26 @@ use Rattle.std.specs.Prelude.{slice_index_or}
 use Rattle.std.proofs.lemmas.Bool.{cases_eq, cases_lt}
 use Rattle.site_model.specs.Disk.{Place, Files, Disk, IsPossible}
 use Rattle.file_names.specs.declared.Kind.{Kind}
-use Rattle.file_names.specs.Names.{name_bytes, place_of}
-use Rattle.file_names.specs.declared.Kind.TheVariants.{Dat, Cpd, Shard}
+use Rattle.file_names.specs.Names.{max_shards, name_bytes, place_of}
+use Rattle.file_names.specs.declared.Kind.TheVariants.{Dat, Idx, Cpd, Cpx, Shard, Ecx, Ecj, Vif}
 use Rattle.image_meaning.specs.Files.{VolumeFiles, shard_home}
 use Rattle.site_recovery.specs.Changes.{IsKindAt, LacksSome, TakesAway}
-use Rattle.site_recovery.specs.CodedGone.{IsSpare, AreGoneBelow, IsUnkept, IsGoneBeside, ClearsUnless}
+use Rattle.site_recovery.specs.CodedGone.{IsSpare, AreGoneBelow, IsUnkept, IsGoneBeside, ClearsUnless, IsBesideKind, IsStray, AreStraysGone}
 use Rattle.site_recovery.proofs.Taking.{takes_on, takes_more, takes_clear}
 use Rattle.site_recovery.proofs.Gone.{stays_gone}
 
 -- data files
 pub takes_dat : (v : ℕ) (files : VolumeFiles) {old new : Disk} → TakesAway (IsKindAt v Dat false None) old new → TakesAway (IsSpare v files) old new
-takes_dat v files takes = takes_more (λ k is. (is.0, Dat, is.1, tt)) takes
+takes_dat v files takes = takes_more (λ k is. (is.0, Dat, is.1, tt, tt)) takes
 
 -- those that a vacuum made too
 pub takes_cpd : (v : ℕ) (files : VolumeFiles) {old mid new : Disk} → TakesAway (IsSpare v files) old mid → TakesAway (IsKindAt v Cpd false None) mid new → TakesAway (IsSpare v files) old new
-takes_cpd v files first takes = takes_on first (takes_more (λ k is. (is.0, Cpd, is.1, tt)) takes)
+takes_cpd v files first takes = takes_on first (takes_more (λ k is. (is.0, Cpd, is.1, tt, tt)) takes)
 
 -- and the copies of one shard more
-pub takes_shard : (v : ℕ) (files : VolumeFiles) (i : ℕ) (keeper : Option ℕ) {old mid new : Disk} → keeper ≡ shard_home files i → TakesAway (IsSpare v files) old mid
+pub takes_shard : (v : ℕ) (files : VolumeFiles) (i : ℕ) (keeper : Option ℕ) {old mid new : Disk} → i < max_shards → keeper ≡ shard_home files i → TakesAway (IsSpare v files) old mid
     → TakesAway (IsKindAt v (Shard i) false keeper) mid new → TakesAway (IsSpare v files) old new
-takes_shard v files i keeper same first takes = takes_on first (takes_more (λ k is. (is.0, Shard i, is.1, subst (λ (o : Option ℕ). o ≢ Some is.0) same is.2)) takes)
+takes_shard v files i keeper small same first takes = takes_on first (takes_more (λ k is. (is.0, Shard i, is.1, subst (λ (o : Option ℕ). o ≢ Some is.0) same is.2, small)) takes)
 
 module _ (v : ℕ) (files : VolumeFiles) where
   pub dat_gone : {touched : Place → Type 0} (mid new : Files) → LacksSome touched mid new → ((server : ℕ) → None ≢ Some server → mid (place_of v server Dat false) ≡ None)
@@ -77,3 +77,21 @@ module _ (v : ℕ) (kind : Kind) (keeps : List Bool) where
     | inl low ↦ below s low other
     | inr high ↦ stays_gone (place_of v s kind false) lacks (possible.nowhere_else (place_of v s kind false) (omega arith))
   ]
+
+-- the files of one kind are strays
+pub stray_of : (v : ℕ) (kind : Kind) (keeps : List Bool) {old new : Disk} → IsBesideKind kind → TakesAway (IsUnkept v kind keeps) old new → TakesAway (IsStray v keeps) old new
+stray_of v kind keeps is takes = takes_more (λ k at. (at.0, kind, at.1, is, at.2)) takes
+
+-- what is gone beside no shard stays gone
+pub beside_kept : {touched : Place → Type 0} (v : ℕ) (kind : Kind) (keeps : List Bool) (old new : Files) → LacksSome touched old new → IsGoneBeside v kind keeps old → IsGoneBeside v kind keeps new
+beside_kept v kind keeps old new lacks gone server other = stays_gone (place_of v server kind false) lacks (gone server other)
+
+pub strays_all : (v : ℕ) (keeps : List Bool) (files : Files) → IsGoneBeside v Ecx keeps files → IsGoneBeside v Ecj keeps files → IsGoneBeside v Vif keeps files → AreStraysGone v keeps files
+strays_all v keeps files ecx ecj vif server Dat is other = absurd is
+strays_all v keeps files ecx ecj vif server Idx is other = absurd is
+strays_all v keeps files ecx ecj vif server Cpd is other = absurd is
+strays_all v keeps files ecx ecj vif server Cpx is other = absurd is
+strays_all v keeps files ecx ecj vif server (Shard i) is other = absurd is
+strays_all v keeps files ecx ecj vif server Ecx is other = ecx server other
+strays_all v keeps files ecx ecj vif server Ecj is other = ecj server other
+strays_all v keeps files ecx ecj vif server Vif is other = vif server other

@@ -6,7 +6,7 @@ use Rattle.site_model.specs.Leaves.{weaker}
 use Rattle.whole_file.specs.Whole.{Clears}
 use Rattle.file_names.specs.declared.Kind.{Kind}
 use Rattle.file_names.specs.declared.Kind.TheVariants.{Dat, Idx, Cpd, Cpx, Shard, Ecx, Ecj, Vif}
-use Rattle.file_names.specs.Names.{max_shards, place_of}
+use Rattle.file_names.specs.Names.{IsKind, max_shards, place_of}
 use Rattle.image_meaning.specs.Files.{VolumeFiles, contents, files_of, shard_home}
 use Rattle.image_meaning.specs.Meaning.{max_volumes}
 use Rattle.image_meaning.specs.Sound.{IsHolder, IsCoded}
@@ -30,7 +30,7 @@ MayGo files server Vif = IsHolder files server → ⊥
 
 -- one of these files of the volume
 abbrev pub IsSpare : ℕ → VolumeFiles → Place → Type 0
-IsSpare v files k = (server : ℕ) × (kind : Kind) × (k ≡ place_of v server kind false) × MayGo files server kind
+IsSpare v files k = (server : ℕ) × (kind : Kind) × (k ≡ place_of v server kind false) × MayGo files server kind × IsKind kind
 
 -- ---- the law
 
@@ -47,7 +47,7 @@ module _ (old new : Image) (v : ℕ) (h : v < max_volumes) (lacks : LacksSome (I
       subst (λ (p : ℕ × Kind). MayGo (files_of old v) p.0 p.1) (λ i. (sym at.0 i, sym at.1 i)) gone.0.3)))
       (lacks (place_of v server kind false))
 
-  spare_thinned : IsCodedThinned (files_of old v) (files_of new v)
+  pub spare_thinned : IsCodedThinned (files_of old v) (files_of new v)
   spare_thinned = record {
     each = each;
     homes = λ i server home. stays server (Shard i) (λ other. other home);
@@ -97,3 +97,23 @@ IsGoneBeside v kind keeps files = (server : ℕ) → slice_index_or keeps server
 pub record ClearsUnless (keep : Bool) (p : Place) (old new : Disk) : Type 0 where
   pub kept : keep ≡ true → new ≡ old
   pub cleared : keep ≡ false → Clears p old new
+
+-- ---- the files beside shards
+
+-- the text of a volume, its index or its journal
+abbrev pub IsBesideKind : Kind → Type 0
+IsBesideKind Dat = ⊥
+IsBesideKind Idx = ⊥
+IsBesideKind Cpd = ⊥
+IsBesideKind Cpx = ⊥
+IsBesideKind (Shard i) = ⊥
+IsBesideKind Ecx = Unit {0}
+IsBesideKind Ecj = Unit {0}
+IsBesideKind Vif = Unit {0}
+
+-- such a file at a server that doesn't keep it
+abbrev pub IsStray : ℕ → List Bool → Place → Type 0
+IsStray v keeps k = (server : ℕ) × (kind : Kind) × (k ≡ place_of v server kind false) × IsBesideKind kind × (slice_index_or keeps server false ≡ false)
+
+abbrev pub AreStraysGone : ℕ → List Bool → Files → Type 0
+AreStraysGone v keeps files = (server : ℕ) (kind : Kind) → IsBesideKind kind → slice_index_or keeps server false ≡ false → files (place_of v server kind false) ≡ None

@@ -1,7 +1,7 @@
 -- What a recovery does with the files of a coded volume.
 use Rattle.std.specs.Prelude.{◌≡◌, ℕ, ◌<◌, List, Some, None}
 use Rattle.file_names.specs.declared.Kind.{Kind}
-use Rattle.file_names.specs.declared.Kind.TheVariants.{Dat, Cpd, Shard, Ecj}
+use Rattle.file_names.specs.declared.Kind.TheVariants.{Dat, Cpd, Shard, Ecx, Ecj, Vif}
 use Rattle.file_names.specs.Names.{IsKind, max_shards}
 use Rattle.wire_num.specs.Pairs.{journal_bytes}
 use Rattle.image_meaning.specs.Files.{VolumeFiles, bytes_at, shard_home}
@@ -26,6 +26,8 @@ HaveSameIds files = (s t : ℕ) → IsHolder files s → IsHolder files t → de
 pub record IsLeftCoded (old new : VolumeFiles) (ids : List ℕ) : Type 0 where
   pub shards : (server i : ℕ) → i < max_shards → Stands new server (Shard i) → shard_home old i ≡ Some server
   pub kept : (server i : ℕ) → i < max_shards → shard_home old i ≡ Some server → new server (Shard i) ≡ old server (Shard i)
+  pub texts : (server : ℕ) → IsHolder new server → new server Vif ≡ old server Vif
+  pub indexes : (server : ℕ) → IsHolder new server → new server Ecx ≡ old server Ecx
   pub journals : (server : ℕ) → IsHolder new server → bytes_at new server Ecj ≡ journal_bytes ids
   pub no_dat : (server : ℕ) → server < max_servers → new server Dat ≡ None
   pub no_cpd : (server : ℕ) → server < max_servers → new server Cpd ≡ None

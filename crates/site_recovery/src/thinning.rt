@@ -6,6 +6,7 @@ ghost use Rattle.site_recovery.specs.Runs.{IsSiteFault};
 ghost use Rattle.site_recovery.specs.Changes.{TakesAway};
 ghost use Rattle.file_names.specs.Names.{IsKind};
 ghost use Rattle.site_recovery.specs.CodedGone.{IsUnkept, IsGoneBeside, ClearsUnless, IsSpare, HasShardHomes, AreCopiesGone};
+ghost use Rattle.site_recovery.specs.CodedGone.{IsStray, AreStraysGone};
 
 use crate::asking::clear_at;
 use crate::clearing::clear_kind;
@@ -45,8 +46,28 @@ pub(crate) fn clear_copies<T: Site>(
     Ok(())
 }
 
-/// Removes the file of this kind at each server that doesn't keep it.
-pub(crate) fn clear_beside<T: Site>(
+/// Removes the index, the journal and the text at each server that doesn't keep them.
+pub(crate) fn clear_strays<T: Site>(
+    alloc: Global,
+    site: &mut T,
+    volume: u32,
+    keeps: &[bool],
+) -> Result<(), OpenFault>
+    requires { T.servers site.old ≤ length keeps.now }
+    ensures effect { IsTrue T.tells → TakesAway (IsStray volume keeps.now) (T.disk site.old)
+        (T.disk site.new) }
+    ensures done { OnOk result (IsTrue T.tells → AreStraysGone volume keeps.now (T.disk site.new).files) }
+    ensures why { IfErr result IsSiteFault }
+    ensures runs { Calls T.counts T.servers site.old site.new (λ s. IsErrOf result (OpenFault.Fault s)) }
+{
+    clear_beside(alloc, site, volume, Kind::Ecx, keeps)?;
+    clear_beside(alloc, site, volume, Kind::Ecj, keeps)?;
+    clear_beside(alloc, site, volume, Kind::Vif, keeps)?;
+    Ok(())
+}
+
+// Removes the file of this kind at each server that doesn't keep it.
+fn clear_beside<T: Site>(
     alloc: Global,
     site: &mut T,
     volume: u32,

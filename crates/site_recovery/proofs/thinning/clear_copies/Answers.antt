@@ -24,7 +24,7 @@ loop-shard-init g c =
 
 pub returns-in_err-clear_kind-3-clause-effect : goal.returns-in_err-clear_kind-3-clause-effect
 returns-in_err-clear_kind-3-clause-effect g c = λ told.
-    takes_shard c.args.volume (files_of (contents (g.T.Site.disk c.args.site.now).files) c.args.volume) c.loop-shard.shard _
+    takes_shard c.args.volume (files_of (contents (g.T.Site.disk c.args.site.now).files) c.args.volume) c.loop-shard.shard _ c.loop-shard-test.true
     (ap (λ (n : ℕ). slice_index_or c.args.homes.now n None) c.from.ensures ∙ c.requires told c.loop-shard.shard c.loop-shard-test.true)
     (c.loop-shard.invariant.takes told) (c.clear_kind-in-loop-shard.ensures.effect told)
 
@@ -32,7 +32,7 @@ pub loop-shard-preserved : goal.loop-shard-preserved
 loop-shard-preserved g c = record {
   runs = calls_untold (calls_on_anywhere c.loop-shard.invariant.runs c.clear_kind-in-loop-shard.ensures.runs);
   takes = λ told.
-      takes_shard c.args.volume (files_of (contents (g.T.Site.disk c.args.site.now).files) c.args.volume) c.loop-shard.shard _
+      takes_shard c.args.volume (files_of (contents (g.T.Site.disk c.args.site.now).files) c.args.volume) c.loop-shard.shard _ c.loop-shard-test.true
       (ap (λ (n : ℕ). slice_index_or c.args.homes.now n None) c.from.ensures ∙ c.requires told c.loop-shard.shard c.loop-shard-test.true)
       (c.loop-shard.invariant.takes told) (c.clear_kind-in-loop-shard.ensures.effect told);
   gone = λ told.

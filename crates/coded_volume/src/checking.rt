@@ -12,11 +12,12 @@ mod journals;
 mod lengths;
 mod texts;
 
-use crate::checking::holders::holders_of;
+pub use crate::checking::holders::{Holders, holders_of};
 use crate::checking::indexes::check_indexes;
 use crate::checking::journals::check_journals;
 use crate::checking::lengths::check_lengths;
 use crate::checking::texts::check_texts;
+pub use crate::checking::texts::info_at;
 use site_model::{OpenFault, Site};
 use std::alloc::Global;
 use stripe_layout::Info;

@@ -1,7 +1,7 @@
 -- What a recovery leaves of a coded volume is of the same form, and keeps the rules that are tested.
-use Rattle.std.proofs.Common.{◌≡◌, ◌≢◌, inl, inr, ⊎_elim, ℕ, zero, suc, ◌+◌, ◌*◌, ◌<◌, ◌≤◌, Bool, true, false, List, length, map, Option, Some, None, is_some, IsTrue, [], refl, sym, ◌∙◌, ap, subst, arith}
-use Rattle.std.specs.Prelude.{◌||◌, nat_eq, unwrap_or, option_and_then, Contains}
-use Rattle.std.specs.List.{AllByRecursion, IsDistinct, list_any, range_with_len}
+use Rattle.std.proofs.Common.{◌≡◌, ◌≢◌, inl, inr, ⊎_elim, ℕ, ◌+◌, ◌*◌, ◌<◌, ◌≤◌, Bool, true, List, length, map, Option, Some, None, is_some, IsTrue, [], refl, sym, ◌∙◌, ap, subst, arith}
+use Rattle.std.specs.Prelude.{nat_eq, unwrap_or, option_and_then, Contains}
+use Rattle.std.specs.List.{AllByRecursion, IsDistinct}
 use mathlib.Core.Bool.{true≢false}
 use Rattle.std.proofs.lemmas.Bool.{cases_lt}
 use Rattle.world_model.specs.Sizes.{deletion_length, max_dat}
@@ -25,7 +25,7 @@ use Rattle.image_meaning.specs.Laws.Views.{same_index_at, has_either, made_has, 
 use Rattle.image_meaning.specs.Laws.LossLaw.{coded_form, is_coded}
 use Rattle.image_meaning.specs.Laws.Survivable.{fewer}
 use Rattle.image_meaning.specs.CodedCopies.{IsCodedThinned, gone_held, same_standing, same_holder}
-use Rattle.image_meaning.specs.Laws.CodedLoss.{any_range}
+use Rattle.coded_volume.proofs.Standing.{holder_stands, stands_holder}
 use Rattle.site_recovery.specs.CodedSteps.{HaveSameIds}
 use Rattle.site_recovery.specs.CodedSettling.{IsTestedCoded}
 
@@ -44,25 +44,9 @@ lowest_is test s h passes none =
     ] in
     found.1 ∙ ap (λ (n : ℕ). Some n) same
 
--- ---- holders
-
-any_is : (test : ℕ → Bool) (a n : ℕ) → list_any test (range_with_len a n) ≡ true → (i : ℕ) × (i < a + n) × (test i ≡ true)
-any_is test a zero e = absurd (true≢false (sym e))
-any_is test a (suc n) e = by_test (test a) refl e (any_is test (a + 1) n)
-  where
-    by_test : (b : Bool) → test a ≡ b → (b || list_any test (range_with_len (a + 1) n)) ≡ true → (list_any test (range_with_len (a + 1) n) ≡ true → (i : ℕ) × (i < a + 1 + n) × (test i ≡ true)) → (i : ℕ) × (i < a + suc n) × (test i ≡ true)
-    by_test true is h rest = (a, omega arith, is)
-    by_test false is h rest = let found = rest h in (found.0, omega (arith, found.1), found.2)
+-- ---- homes
 
 module _ (files : VolumeFiles) where
-  pub holder_stands : (server i : ℕ) → i < max_shards → Stands files server (Shard i) → IsHolder files server
-  unfolding is_holder
-  holder_stands server i h stand = (stand.0, any_range (λ j. stands files server (Shard j)) 0 max_shards i (omega arith) (omega arith) stand.1)
-
-  pub stands_holder : (server : ℕ) → IsHolder files server → (i : ℕ) × (i < max_shards) × Stands files server (Shard i)
-  unfolding is_holder
-  stands_holder server holds = let found = any_is (λ j. stands files server (Shard j)) 0 max_shards holds.1 in (found.0, omega (arith, found.1), (holds.0, found.2))
-
   -- the home of a shard has it
   pub home_stands : (i server : ℕ) → shard_home files i ≡ Some server → Stands files server (Shard i)
   home_stands i server home = let is = lowest-some (λ s. stands files s (Shard i)) server home in (is.1, is.0.passes)

@@ -20,6 +20,7 @@ use Rattle.image_meaning.specs.Laws.Servers.{lowest-none}
 use Rattle.image_meaning.specs.Laws.Views.{made_has, named_has}
 use Rattle.image_meaning.specs.Laws.LossLaw.{coded_form}
 use Rattle.image_meaning.specs.CodedCopies.{IsCodedThinned}
+use Rattle.coded_volume.proofs.Standing.{holder_stands, stands_holder}
 use Rattle.site_recovery.specs.Changes.{LacksSome, TakesAway, Settles}
 use Rattle.site_recovery.specs.Spreading.{IsAmong, IsJournalAmong, Spreads, AreSpread}
 use Rattle.site_recovery.specs.CodedSteps.{IsLongest, HaveSameIds, IsLeftCoded}
@@ -31,7 +32,7 @@ use Rattle.site_recovery.specs.Laws.CodedStep.{keeps_spread, spread_settles}
 use Rattle.site_recovery.proofs.Taking.{lacks_settled, lacks_standing, settles_on, settles_more}
 use Rattle.site_recovery.proofs.Gone.{stays_gone}
 use Rattle.site_recovery.proofs.Settled.{bytes_same}
-use Rattle.site_recovery.proofs.CodedLeft.{HasJournals, holder_stands, stands_holder, home_stands, spread_home, spread_held, spread_coded, spread_same_ids, spread_tested, was_there, thinned_held, thinned_home, thinned_coded, thinned_same_ids, thinned_tested}
+use Rattle.site_recovery.proofs.CodedLeft.{HasJournals, home_stands, spread_home, spread_held, spread_coded, spread_same_ids, spread_tested, was_there, thinned_held, thinned_home, thinned_coded, thinned_same_ids, thinned_tested}
 
 -- what passes has a longest journal
 pub tested_longest : (files : VolumeFiles) (ids : List ℕ) → IsTestedCoded files ids → IsLongest files ids

@@ -16,13 +16,14 @@ use Rattle.image_meaning.specs.Sound.{IsHolder, Stands}
 use Rattle.image_meaning.specs.Laws.Servers.{lowest-some}
 use Rattle.coded_volume.specs.declared.checking.ShardCopy.{ShardCopy}
 use Rattle.coded_volume.specs.Checking.{AreCopies, AreStanding}
+use Rattle.coded_volume.proofs.Standing.{stands_holder}
 use Rattle.site_recovery.specs.Listing.{lower_of, IsLeastOf}
 use Rattle.site_recovery.specs.Placing.{servers_with, AreHomesOf, MarksHomes}
 use Rattle.site_recovery.specs.Spreading.{IsAmong}
 use Rattle.site_recovery.specs.CodedGone.{HasShardHomes}
 use Rattle.site_recovery.proofs.Names.{least_next}
 use Rattle.site_recovery.proofs.Members.{map_has, map_in, filter_has, filter_in, none_in}
-use Rattle.site_recovery.proofs.CodedLeft.{lowest_is, stands_holder}
+use Rattle.site_recovery.proofs.CodedLeft.{lowest_is}
 use Rattle.site_recovery.proofs.CodedSettled.{AreMarked}
 
 -- ---- the homes

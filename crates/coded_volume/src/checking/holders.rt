@@ -7,13 +7,13 @@ use std::alloc::{AllocError, Global};
 
 /// The lowest server with a copy, and the others by rising number.
 #[derive(Drop)]
-pub(crate) struct Holders {
+pub struct Holders {
     pub first: u32,
     pub others: Vec<u32>,
 }
 
 /// The servers of these copies, which are by rising server.
-pub(crate) fn holders_of(alloc: Global, copies: &[ShardCopy]) -> Result<Holders, AllocError>
+pub fn holders_of(alloc: Global, copies: &[ShardCopy]) -> Result<Holders, AllocError>
     requires { 0 < length copies.now }
     ensures { IfOk result (AreServersOf copies.now) }
 {

@@ -57,8 +57,8 @@ fn says_same(found: Option<Info>, info: Info) -> bool
     found == Some(info)
 }
 
-// What the text at a server says, if it stands and is accepted.
-fn info_at<T: Site>(
+/// What the text at a server says, if it stands and is accepted.
+pub fn info_at<T: Site>(
     alloc: Global,
     site: &mut T,
     volume: u32,

@@ -1,11 +1,14 @@
 -- What becomes of a coded volume's files. For the recovery of coded volumes, to come.
-use Rattle.std.specs.Prelude.{◌≡◌, ℕ, Bool, true, List, None}
+use Rattle.std.specs.Prelude.{◌≡◌, ◌⊎◌, ℕ, Bool, true, List, Option, Some, None}
 use Rattle.site_model.specs.Disk.{Place, Files, IsSettled}
 use Rattle.file_names.specs.declared.Kind.{Kind}
 use Rattle.file_names.specs.Names.{IsKind, place_of}
 use Rattle.image_meaning.specs.Files.{VolumeFiles, contents, files_of}
-use Rattle.image_meaning.specs.Sound.{IsCoded}
-use Rattle.image_meaning.specs.CodedTests.{PassesCoded}
+use Rattle.site_model.specs.declared.error.OpenFault.{OpenFault}
+use Rattle.site_model.specs.declared.error.OpenFault.TheVariants as open_fault
+use Rattle.image_meaning.specs.Sound.{IsCoded, IsLost, HasOneRatio}
+use Rattle.image_meaning.specs.CodedTests.{PassesCoded, FailsCodedFirst}
+use Rattle.coded_volume.specs.declared.checking.Checked.{Checked}
 use Rattle.site_recovery.specs.Steps.{KeepsMeaning}
 use Rattle.site_recovery.specs.CodedSteps.{IsLeftCoded}
 
@@ -27,3 +30,16 @@ pub record IsSettledCoded (v : ℕ) (ids : List ℕ) (old new : Files) : Type 0 
   pub keeps : KeepsMeaning (contents old) (contents new)
   pub temps : (server : ℕ) (kind : Kind) → IsKind kind → old (place_of v server kind true) ≡ None → new (place_of v server kind true) ≡ None
   pub settled : IsSettled old → IsSettled new
+
+-- ---- the tests
+
+-- coded, with the ids of the longest journal, or lost, with texts that tell one ratio
+abbrev pub HasShardForm : VolumeFiles → Option Checked → Type 0
+HasShardForm files (Some checked) = IsTestedCoded files checked.deleted.items
+HasShardForm files None = IsLost files × HasOneRatio files
+
+-- The volume is coded, and this is the first tested rule that is false of it, or it is lost, and its texts tell several ratios.
+abbrev pub FailsShards : ℕ → VolumeFiles → OpenFault → Type 0
+FailsShards v files (open_fault.Unsound volume rule) = (volume ≡ v) × ((IsCoded files × FailsCodedFirst files rule) ⊎ (IsLost files × (rule ≡ 4) × (HasOneRatio files → ⊥)))
+FailsShards v files (open_fault.Fault server) = Unit {0}
+FailsShards v files open_fault.Memory = Unit {0}

@@ -36,3 +36,8 @@ pub mod FromStart
 pub mod Bound
 pub mod Used
 pub mod Short
+pub mod AsTold
+pub mod Within
+pub mod Due
+pub mod Complete
+pub mod Places

@@ -294,7 +294,7 @@ module _ (r : Running) (row : Row) (servers : ℕ) (is : IsPlan r.plan servers) 
   -- ---- whose turn it is
 
   -- the files before the first that isn't finished are, so the list is reached there
-  reached_first : (k : ℕ) → first_open plan states ≡ Some k → (u : FileState) → slice_get states k ≡ Some u → is_open plan u ≡ true → IsReached plan states k
+  pub reached_first : (k : ℕ) → first_open plan states ≡ Some k → (u : FileState) → slice_get states k ≡ Some u → is_open plan u ≡ true → IsReached plan states k
   reached_first k first u at is_open_u = by_place (cases_lt k way.reached.0)
     where
       closed : (n : ℕ) (s : FileState) → slice_get states n ≡ Some s → n < k → is_finished plan s ≡ true

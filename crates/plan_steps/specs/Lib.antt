@@ -24,6 +24,8 @@ pub mod LegalNext
 pub mod PieceCounts
 pub mod Left
 pub mod After
+pub mod AsTold
+pub mod Stepping
 pub mod ListParts
 pub mod Told
 pub mod Ending

@@ -1,10 +1,11 @@
 -- The calls of a site on the file at a place of the list, as calls on the places of that file; and what each then keeps, and
 -- how far the plan has come.
-use Rattle.std.proofs.Common.{◌≡◌, ◌≢◌, ◌⊎◌, ℕ, ◌+◌, ◌<◌, ◌^◌, List, length, None, Some, sym, ◌∙◌, ap, subst}
+use Rattle.std.proofs.Common.{◌≡◌, ◌≢◌, ◌⊎◌, inl, inr, ⊎_elim, ℕ, ◌+◌, ◌<◌, ◌^◌, List, length, None, Some, sym, ◌∙◌, ap, subst}
 use Rattle.std.specs.Prelude.{Bool, true, false, get_or, slice_get, slice_set}
 use Rattle.std.proofs.lemmas.Option.{get_or_from_slice_get}
 use Rattle.image_meaning.specs.Laws.Options.{some_is}
 use Rattle.site_model.specs.Disk.{Place, Disk, Files, Appends, Syncs, Renames, IsRenamed, grown, synced}
+use Rattle.site_model.specs.Touches.{touches_append, touches_sync, touches_rename, touches_more}
 use Rattle.whole_file.specs.Whole as whole
 use Rattle.whole_file.specs.Whole.{WritesWhole, IsWritten}
 use Rattle.world_model.specs.World.{Volume}
@@ -17,10 +18,12 @@ use Rattle.plan_steps.specs.declared.plan.Stage.TheVariants as stage
 use Rattle.plan_steps.specs.declared.plan.FileState.{FileState}
 use Rattle.plan_steps.specs.Kept.{Forms}
 use Rattle.plan_steps.specs.Legal.{FitsPlaces}
+use Rattle.plan_steps.specs.AsTold.{StandsAsTold}
+use Rattle.plan_steps.specs.Laws.AsTold.{syncing_told, registering_told, removing_told, growing_told, putting_told}
 use Rattle.plan_steps.specs.Progressing.{Running, IsNextPlace, FitsProgress}
 use Rattle.plan_steps.specs.Laws.Progress.{registering_keeps, registering_fits, removing_keeps, removing_fits, syncing_keeps, syncing_fits, growing_keeps, growing_fits, putting_keeps, putting_fits}
-use Rattle.plan_run.specs.Finishing.{IsNamedFile, Keeps, Synced, Registers, Registered, Clears, Cleared}
-use Rattle.plan_run.specs.Writing.{Grown, Puts, Put}
+use Rattle.plan_run.specs.Finishing.{IsNamedFile, TouchesFile, TouchesTemp, Keeps, Synced, SyncedTold, Registers, Registered, RegisteredTold, Clears, Cleared, ClearedTold}
+use Rattle.plan_run.specs.Writing.{Grown, GrownTold, Puts, Put, PutTold}
 
 -- what was read at a place of the list is the file there
 pub file_is : (states : List FileState) (j : ℕ) (x s : FileState) → x ≡ get_or states j x → slice_get states j ≡ Some s → x ≡ s
@@ -70,6 +73,16 @@ module _ (r : Running) (servers j : ℕ) (temp name : List ℕ) (named : IsNamed
         (syncing_fits w f r row start old fits j s at written all (subst (λ (p : Place). Syncs p old new) (temp_place s at) did)
         (subst (λ (p : Place). new.files p ≡ synced (old.files p)) (temp_place s at) done))
 
+    pub sync_touches : Syncs (x.server, temp) old new → TouchesTemp r j old new
+    sync_touches did s at = touches_sync (subst (λ (p : Place). Syncs p old new) (temp_place s at) did)
+
+    pub sync_told : Syncs (x.server, temp) old new → new.files (x.server, temp) ≡ synced (old.files (x.server, temp)) → (y : FileState) → y ≡ get_or r.states j y
+        → SyncedTold r j old new (record r { states = slice_set r.states j (record y { stage = stage.Synced }) })
+    sync_told did done y was s at below are so told =
+        read_fits (λ z. record z { stage = stage.Synced }) y s was at (λ states. StandsAsTold r.plan states (share_of new.files r.plan.volume))
+        (syncing_told r.plan below r.states are old new told j s at so.0 so.1 (subst (λ (p : Place). Syncs p old new) (temp_place s at) did)
+        (subst (λ (p : Place). new.files p ≡ synced (old.files p)) (temp_place s at) done))
+
     -- ---- a rename to the final name
 
     renames_at : (s : FileState) → slice_get r.states j ≡ Some s → Renames (x.server, temp) (x.server, name) old new → Renames (place_of r.plan.volume s.server s.kind true) (place_of r.plan.volume s.server s.kind false) old new
@@ -86,6 +99,16 @@ module _ (r : Running) (servers j : ℕ) (temp name : List ℕ) (named : IsNamed
         (registering_fits w f r row start old fits j s at ready may turn onward
         (subst (λ (z : FileState). FitsPlaces r.plan (slice_set r.states j (record z { stage = stage.Registered })) onward) same places)
         (renames_at s at did) (subst (λ (p : Place × Place). IsRenamed p.0 p.1 old.files new.files) (λ k. (temp_place s at k, final_place s at k)) done))
+
+    pub register_touches : Renames (x.server, temp) (x.server, name) old new → TouchesFile r j old new
+    register_touches did s at = touches_more (λ k. ⊎_elim (λ from. inr from) (λ to. inl to)) (touches_rename (renames_at s at did))
+
+    pub register_told : Renames (x.server, temp) (x.server, name) old new → IsRenamed (x.server, temp) (x.server, name) old.files new.files → (y : FileState) → y ≡ get_or r.states j y
+        → RegisteredTold r j old new (record r { states = slice_set r.states j (record y { stage = stage.Registered }) })
+    register_told did done y was s at below are so told =
+        read_fits (λ z. record z { stage = stage.Registered }) y s was at (λ states. StandsAsTold r.plan states (share_of new.files r.plan.volume))
+        (registering_told r.plan below r.states are old new told j s at so.0 so.1 (renames_at s at did)
+        (subst (λ (p : Place × Place). IsRenamed p.0 p.1 old.files new.files) (λ k. (temp_place s at k, final_place s at k)) done))
 
     -- ---- a removal
 
@@ -104,6 +127,15 @@ module _ (r : Running) (servers j : ℕ) (temp name : List ℕ) (named : IsNamed
         (subst (λ (z : FileState). FitsPlaces r.plan (slice_set r.states j (record z { stage = stage.Gone })) onward) same places)
         (clears_at s at did) (subst (λ (p : Place). new.files p ≡ None) (final_place s at) done))
 
+    pub clear_touches : whole.Clears (x.server, name) old new → TouchesFile r j old new
+    clear_touches did s at = touches_more (λ k same. inl same) (clears_at s at did).touches
+
+    pub clear_told : whole.Clears (x.server, name) old new → (y : FileState) → y ≡ get_or r.states j y
+        → ClearedTold r j old new (record r { states = slice_set r.states j (record y { stage = stage.Gone }) })
+    clear_told did y was s at below are so told =
+        read_fits (λ z. record z { stage = stage.Gone }) y s was at (λ states. StandsAsTold r.plan states (share_of new.files r.plan.volume))
+        (removing_told r.plan below r.states are old new told j s at so (clears_at s at did))
+
     -- ---- an append
 
     pub grow_keeps : (piece : List ℕ) → Appends (x.server, temp) piece old new → Keeps r j old new
@@ -117,6 +149,16 @@ module _ (r : Running) (servers j : ℕ) (temp name : List ℕ) (named : IsNamed
         (growing_fits w f r row start old fits j s at begun bytes planned piece right room place
         (subst (λ (z : FileState). IsNextPlace f.parts (record r { states = slice_set r.states j (record z { length = z.length + length piece; stage = stage.Writing }); place = place })) same behind)
         (subst (λ (p : Place). Appends p piece old new) (temp_place s at) did)
+        (subst (λ (p : Place). new.files p ≡ Some (grown (old.files p) piece)) (temp_place s at) done))
+
+    pub grow_touches : (piece : List ℕ) → Appends (x.server, temp) piece old new → TouchesTemp r j old new
+    grow_touches piece did s at = touches_append (subst (λ (p : Place). Appends p piece old new) (temp_place s at) did)
+
+    pub grow_told : (piece : List ℕ) → Appends (x.server, temp) piece old new → new.files (x.server, temp) ≡ Some (grown (old.files (x.server, temp)) piece)
+        → GrownTold r j old new (record r { states = slice_set r.states j (record x { length = x.length + length piece; stage = stage.Writing }) })
+    grow_told piece did done s at below are so told =
+        subst (λ (z : FileState). StandsAsTold r.plan (slice_set r.states j (record z { length = z.length + length piece; stage = stage.Writing })) (share_of new.files r.plan.volume)) (sym (is s at))
+        (growing_told r.plan below r.states are old new told j s at piece so (subst (λ (p : Place). Appends p piece old new) (temp_place s at) did)
         (subst (λ (p : Place). new.files p ≡ Some (grown (old.files p) piece)) (temp_place s at) done))
 
     -- ---- a file that is written whole
@@ -136,3 +178,13 @@ module _ (r : Running) (servers j : ℕ) (temp name : List ℕ) (named : IsNamed
         (subst (λ (z : FileState). FitsPlaces r.plan (slice_set r.states j (record z { length = length bytes; stage = stage.Registered })) onward) same places) place
         (subst (λ (z : FileState). IsNextPlace f.parts (record r { states = slice_set r.states j (record z { length = length bytes; stage = stage.Registered }); place = place })) same behind)
         (writes_at s at bytes did) (subst (λ (p : Place × Place). IsWritten p.0 p.1 bytes new) (λ k. (final_place s at k, temp_place s at k)) done))
+
+    pub put_touches : (bytes : List ℕ) → WritesWhole (x.server, name) (x.server, temp) bytes old new → TouchesFile r j old new
+    put_touches bytes did s at = (writes_at s at bytes did).touches
+
+    pub put_told : (bytes : List ℕ) → WritesWhole (x.server, name) (x.server, temp) bytes old new → IsWritten (x.server, name) (x.server, temp) bytes new
+        → PutTold r j bytes old new (record r { states = slice_set r.states j (record x { length = length bytes; stage = stage.Registered }) })
+    put_told bytes did done s at below are so told =
+        subst (λ (z : FileState). StandsAsTold r.plan (slice_set r.states j (record z { length = length bytes; stage = stage.Registered })) (share_of new.files r.plan.volume)) (sym (is s at))
+        (putting_told r.plan below r.states are old new told j s at bytes so.0 so.1 (writes_at s at bytes did)
+        (subst (λ (p : Place × Place). IsWritten p.0 p.1 bytes new) (λ k. (final_place s at k, temp_place s at k)) done))

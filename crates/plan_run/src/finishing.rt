@@ -2,8 +2,10 @@
 ghost use Rattle.std.specs.Prelude.{◌≡◌, IsTrue, MatchResult};
 ghost use Rattle.plan_steps.specs.Progressing.{running};
 ghost use Rattle.plan_run.specs.Faults.{AtFile, IsBlamed, IsBlamedForWriting};
-ghost use Rattle.plan_run.specs.Finishing.{IsNamedFile, TempStands, Does, Keeps, Synced, Tells, at_stage};
-ghost use Rattle.plan_run.specs.Finishing.{Registers, Registered, Clears, Cleared};
+ghost use Rattle.plan_steps.specs.After.{at_stage};
+ghost use Rattle.plan_run.specs.Finishing.{IsNamedFile, TempStands, Does, TouchesFile, TouchesTemp, Tells};
+ghost use Rattle.plan_run.specs.Finishing.{Keeps, Synced, SyncedTold, Registers, Registered, RegisteredTold};
+ghost use Rattle.plan_run.specs.Finishing.{Clears, Cleared, ClearedTold};
 
 use plan_steps::{Plan, Progress, Stage};
 use site_model::{DeviceFault, Site};
@@ -22,8 +24,11 @@ pub fn sync_file<T: Site>(
         progress.old.files.items at temp.now name.now }
     requires stands { IsTrue T.tells → TempStands (running plan.now progress.old) at (T.disk site.old).files }
     ensures effect { IsTrue T.tells
-        → Does (Keeps (running plan.now progress.old) at (T.disk site.old) (T.disk site.new))
+        → Does (TouchesTemp (running plan.now progress.old) at (T.disk site.old) (T.disk site.new))
+        (Keeps (running plan.now progress.old) at (T.disk site.old) (T.disk site.new))
         (Synced (running plan.now progress.old) at (T.disk site.old) (T.disk site.new)
+        (running plan.now progress.new))
+        (SyncedTold (running plan.now progress.old) at (T.disk site.old) (T.disk site.new)
         (running plan.now progress.new)) result }
     ensures state { MatchResult result (λ _. Tells at (at_stage Stage.Synced) progress.old progress.new)
         (λ _. progress.new ≡ progress.old) }
@@ -53,8 +58,11 @@ pub fn register_file<T: Site>(
         progress.old.files.items at temp.now name.now }
     requires stands { IsTrue T.tells → TempStands (running plan.now progress.old) at (T.disk site.old).files }
     ensures effect { IsTrue T.tells
-        → Does (Registers (running plan.now progress.old) at (T.disk site.old) (T.disk site.new))
+        → Does (TouchesFile (running plan.now progress.old) at (T.disk site.old) (T.disk site.new))
+        (Registers (running plan.now progress.old) at (T.disk site.old) (T.disk site.new))
         (Registered (running plan.now progress.old) at (T.disk site.old) (T.disk site.new)
+        (running plan.now progress.new))
+        (RegisteredTold (running plan.now progress.old) at (T.disk site.old) (T.disk site.new)
         (running plan.now progress.new)) result }
     ensures state { MatchResult result (λ _. Tells at (at_stage Stage.Registered) progress.old progress.new)
         (λ _. progress.new ≡ progress.old) }
@@ -83,8 +91,11 @@ pub fn clear_file<T: Site>(
     requires file { IsNamedFile plan.now.volume (T.servers site.old)
         progress.old.files.items at temp.now name.now }
     ensures effect { IsTrue T.tells
-        → Does (Clears (running plan.now progress.old) at (T.disk site.old) (T.disk site.new))
+        → Does (TouchesFile (running plan.now progress.old) at (T.disk site.old) (T.disk site.new))
+        (Clears (running plan.now progress.old) at (T.disk site.old) (T.disk site.new))
         (Cleared (running plan.now progress.old) at (T.disk site.old) (T.disk site.new)
+        (running plan.now progress.new))
+        (ClearedTold (running plan.now progress.old) at (T.disk site.old) (T.disk site.new)
         (running plan.now progress.new)) result }
     ensures state { MatchResult result (λ _. Tells at (at_stage Stage.Gone) progress.old progress.new)
         (λ _. progress.new ≡ progress.old) }

@@ -4,8 +4,9 @@ ghost use Rattle.site_model.specs.Counts.{widest_piece};
 ghost use Rattle.whole_file.specs.Pieces.{append_pieces};
 ghost use Rattle.plan_steps.specs.Progressing.{running};
 ghost use Rattle.plan_run.specs.Faults.{AtFile, IsBlamed, WritesAt};
-ghost use Rattle.plan_run.specs.Finishing.{IsNamedFile, Does, Keeps, Tells};
-ghost use Rattle.plan_run.specs.Writing.{HasRoom, Grown, Puts, Put, grown_by, put_whole};
+ghost use Rattle.plan_steps.specs.After.{grown_by, put_whole};
+ghost use Rattle.plan_run.specs.Finishing.{IsNamedFile, Does, TouchesFile, TouchesTemp, Keeps, Tells};
+ghost use Rattle.plan_run.specs.Writing.{HasRoom, Grown, GrownTold, Puts, Put, PutTold};
 
 use plan_steps::{FileState, Plan, Progress, Stage};
 use site_model::{DeviceFault, Site};
@@ -25,8 +26,11 @@ pub fn grow_file<T: Site>(
         progress.old.files.items at temp.now name.now }
     requires room { HasRoom progress.old.files.items at (length piece.now) }
     ensures effect { IsTrue T.tells
-        → Does (Keeps (running plan.now progress.old) at (T.disk site.old) (T.disk site.new))
+        → Does (TouchesTemp (running plan.now progress.old) at (T.disk site.old) (T.disk site.new))
+        (Keeps (running plan.now progress.old) at (T.disk site.old) (T.disk site.new))
         (Grown (running plan.now progress.old) at piece.now (T.disk site.old) (T.disk site.new)
+        (running plan.now progress.new))
+        (GrownTold (running plan.now progress.old) at (T.disk site.old) (T.disk site.new)
         (running plan.now progress.new)) result }
     ensures state { MatchResult result (λ _. Tells at (grown_by (length piece.now)) progress.old progress.new)
         (λ _. progress.new ≡ progress.old) }
@@ -64,8 +68,11 @@ pub fn put_file<T: Site>(
     requires there { at < length progress.old.files.items }
     requires volume { plan.now.volume < 2 ^ 32 }
     ensures effect { IsTrue T.tells
-        → Does (Puts (running plan.now progress.old) at bytes.now (T.disk site.old) (T.disk site.new))
+        → Does (TouchesFile (running plan.now progress.old) at (T.disk site.old) (T.disk site.new))
+        (Puts (running plan.now progress.old) at bytes.now (T.disk site.old) (T.disk site.new))
         (Put (running plan.now progress.old) at bytes.now (T.disk site.old) (T.disk site.new)
+        (running plan.now progress.new))
+        (PutTold (running plan.now progress.old) at bytes.now (T.disk site.old) (T.disk site.new)
         (running plan.now progress.new)) result }
     ensures state { MatchResult result
         (λ _. Tells at (put_whole (length bytes.now)) progress.old progress.new)

@@ -1,22 +1,18 @@
 -- The calls of a site on the file at a place of the list, as calls on the places of that file; and what each then keeps, and
 -- how far the plan has come.
-use Rattle.std.proofs.Common.{◌≡◌, ◌≢◌, ◌⊎◌, inl, inr, ⊎_elim, ℕ, ◌+◌, ◌<◌, ◌^◌, List, length, None, Some, sym, ◌∙◌, ap, subst}
-use Rattle.std.specs.Prelude.{Bool, true, false, get_or, slice_get, slice_set}
+use Rattle.std.proofs.Common.{◌≡◌, ◌≢◌, inl, inr, ⊎_elim, ℕ, ◌+◌, ◌<◌, ◌^◌, List, length, None, Some, sym, ◌∙◌, ap, subst}
+use Rattle.std.specs.Prelude.{true, false, get_or, slice_get, slice_set}
 use Rattle.std.proofs.lemmas.Option.{get_or_from_slice_get}
 use Rattle.image_meaning.specs.Laws.Options.{some_is}
-use Rattle.site_model.specs.Disk.{Place, Disk, Files, Appends, Syncs, Renames, IsRenamed, grown, synced}
+use Rattle.site_model.specs.Disk.{Place, Disk, Appends, Syncs, Renames, IsRenamed, grown, synced}
 use Rattle.site_model.specs.Touches.{touches_append, touches_sync, touches_rename, touches_more}
 use Rattle.whole_file.specs.Whole as whole
 use Rattle.whole_file.specs.Whole.{WritesWhole, IsWritten}
-use Rattle.world_model.specs.World.{Volume}
 use Rattle.file_names.specs.Names.{name_bytes, place_of}
-use Rattle.shard_table.specs.Table.{Row}
 use Rattle.image_meaning.specs.Laws.Copy.{temp_apart}
-use Rattle.image_meaning.specs.Share.{Share, share_of}
-use Rattle.plan_steps.specs.declared.plan.Stage.{Stage}
+use Rattle.image_meaning.specs.Share.{share_of}
 use Rattle.plan_steps.specs.declared.plan.Stage.TheVariants as stage
 use Rattle.plan_steps.specs.declared.plan.FileState.{FileState}
-use Rattle.plan_steps.specs.Kept.{Forms}
 use Rattle.plan_steps.specs.Legal.{FitsPlaces}
 use Rattle.plan_steps.specs.AsTold.{StandsAsTold}
 use Rattle.plan_steps.specs.Laws.AsTold.{syncing_told, registering_told, removing_told, growing_told, putting_told}

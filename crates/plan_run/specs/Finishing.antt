@@ -1,5 +1,5 @@
 -- What it takes that a file of a plan is finished or goes, and what that leaves.
-use Rattle.std.specs.Prelude.{◌≡◌, ◌⊎◌, ℕ, ◌<◌, Bool, true, false, List, length, slice_get, slice_set, Some, IsSome, Result, OnOk}
+use Rattle.std.specs.Prelude.{◌≡◌, ◌⊎◌, ℕ, ◌<◌, true, false, List, length, slice_get, slice_set, Some, IsSome, Result, OnOk}
 use Rattle.site_model.specs.Disk.{Place, Files, Disk}
 use Rattle.site_model.specs.Touches.{Touches, At}
 use Rattle.site_model.specs.declared.error.DeviceFault.{DeviceFault}
@@ -8,7 +8,6 @@ use Rattle.file_names.specs.Names.{name_bytes, place_of}
 use Rattle.shard_table.specs.Table.{Row}
 use Rattle.image_meaning.specs.Meaning.{max_volumes}
 use Rattle.image_meaning.specs.Share.{Share, share_of}
-use Rattle.plan_steps.specs.declared.plan.Plan.{Plan}
 use Rattle.plan_steps.specs.declared.plan.Progress.{Progress}
 use Rattle.plan_steps.specs.declared.plan.Stage.TheVariants as stage
 use Rattle.plan_steps.specs.declared.plan.FileState.{FileState}

@@ -2,6 +2,7 @@
 -- For `run_step` of the running plans of `plan_run`, to come.
 use Rattle.std.proofs.Common.{◌≡◌, ◌≢◌, ◌⊎◌, inl, inr, ⊎_elim, ℕ, ◌-◌, ◌/◌, ◌<◌, ◌≤◌, Bool, true, false, List, length, map, Some, None, refl, sym, ◌∙◌, ap, subst, arith}
 use Rattle.std.specs.Prelude.{◌&&◌, ◌==◌, nat_lt, not, if◌then◌else◌, slice_get}
+use Rattle.std.specs.Coded.{Coded-set, coded_ℕ, le_prop, Unit-prop}
 use Rattle.std.proofs.lemmas.Bool.{and_parts, and_from, eq-eqb, false≢true}
 use Rattle.image_meaning.specs.Laws.Options.{none_some, some_is}
 use Rattle.world_model.specs.declared.types.Command.{Command}
@@ -29,7 +30,7 @@ use Rattle.plan_steps.specs.Laws.Walk.{place_cases, file_is, is_this, same_kind-
 use Rattle.plan_steps.specs.Next.{make_step, join_step, data_step, is_made, mend_step, shard_step, shard_source, index_step, piece_step, is_whole, going_step, coming_step, file_step, file_at, is_behind, is_synced, is_data, if_behind, turn_of, step_at, next_step}
 use Rattle.plan_steps.specs.Legality.{is_make, is_join, is_shard, is_made_kind, is_behind_data, goes_on, goes_on_behind}
 use Rattle.plan_steps.specs.LegalNext.{make_here, join_here, reached_first}
-use Rattle.plan_steps.specs.After.{piece_length, grown_by, at_stage, put_whole, appended, after, IsAfter, AreShort, AreInUnits}
+use Rattle.plan_steps.specs.After.{piece_length, grown_by, at_stage, put_whole, appended, after, IsAfter, IsShort, AreShort, IsInUnits, AreInUnits}
 use Rattle.plan_steps.specs.Laws.Advances.{data_kind, shard_kind, made_kind, file_kind}
 use Rattle.plan_steps.specs.Laws.Short.{short_on, short_first}
 use Rattle.plan_steps.specs.Beginning.{first_stage, first_state, first_states}
@@ -334,3 +335,38 @@ bounds_first plan servers is = record { short = (short_first plan servers is).0;
     each k u at =
         let found = named_at (first_state plan) (list_of plan) k u at in
         subst IsTextWhole found.2 (λ kind. first_not (is_found plan plan.command found.0.0 found.0.1))
+
+-- ---- the bounds are a fact
+
+short_fact : (plan : Plan) (n : ℕ) (kind : Kind) → IsProp (IsShort plan n kind)
+short_fact plan n Dat = le_prop
+short_fact plan n Idx = Unit-prop
+short_fact plan n Cpd = Unit-prop
+short_fact plan n Cpx = Unit-prop
+short_fact plan n (Shard i) = le_prop
+short_fact plan n Ecx = le_prop
+short_fact plan n Ecj = le_prop
+short_fact plan n Vif = Unit-prop
+
+units_fact : (plan : Plan) (n : ℕ) (kind : Kind) → IsProp (IsInUnits plan n kind)
+units_fact plan n Dat = Coded-set coded_ℕ _ _
+units_fact plan n Idx = Unit-prop
+units_fact plan n Cpd = Unit-prop
+units_fact plan n Cpx = Unit-prop
+units_fact plan n (Shard i) = Unit-prop
+units_fact plan n Ecx = Coded-set coded_ℕ _ _
+units_fact plan n Ecj = Coded-set coded_ℕ _ _
+units_fact plan n Vif = Unit-prop
+
+none_fact : (a b : ⊥) → a ≡ b
+none_fact a b = absurd a
+
+pub bounds_fact : (plan : Plan) (states : List FileState) (place : ℕ) → IsProp (IsInBounds plan states place)
+bounds_fact plan states place a b = λ i. record {
+  short = record {
+    next = le_prop a.short.next b.short.next i;
+    lengths = λ k s at behind. short_fact plan s.length s.kind (a.short.lengths k s at behind) (b.short.lengths k s at behind) i;
+  };
+  units = record { units = λ k s at behind. units_fact plan s.length s.kind (a.units.units k s at behind) (b.units.units k s at behind) i };
+  texts = λ k s at kind stage. none_fact (a.texts k s at kind stage) (b.texts k s at kind stage) i;
+}

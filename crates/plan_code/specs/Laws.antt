@@ -1,0 +1,9 @@
+pub mod Range
+pub mod Made
+pub mod Live
+pub mod Bytes
+pub mod Encode
+pub mod Coded
+pub mod Decode
+pub mod Follow
+pub mod Once

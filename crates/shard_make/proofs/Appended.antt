@@ -1,14 +1,14 @@
 -- Pieces that were appended to the temporary files, one after the other.
-use Rattle.std.proofs.Common.{◌≡◌, ◌≢◌, ◌⊎◌, inl, inr, ⊎_elim, ℕ, ◌+◌, ◌*◌, ◌^◌, ◌<◌, ◌≤◌, List, [], length, take, drop, Option, Some, refl, sym, ◌∙◌, ap, subst, length-take, arith}
+use Rattle.std.proofs.Common.{◌≡◌, ◌≢◌, inl, inr, ℕ, ◌+◌, ◌*◌, ◌^◌, ◌<◌, ◌≤◌, List, [], length, drop, Option, Some, refl, sym, ◌∙◌, ap, subst, length-take, arith}
 use Rattle.std.specs.Prelude.{true}
 use Rattle.std.proofs.lemmas.Bool.{cases_lt, cases_eq}
-use Rattle.site_model.specs.Disk.{File, Place, Files, Image, LeftOf, LeftIn, Disk, Appends, grown, IsPartlyGrown, appends}
+use Rattle.site_model.specs.Disk.{File, Place, Image, LeftIn, Disk, Appends, grown, IsPartlyGrown, appends}
 use Rattle.site_model.specs.Leaves.{Leaves, starts, by_append}
-use Rattle.site_model.specs.Touches.{Touches, At, touches_none, touches_on, touches_more, touches_append}
+use Rattle.site_model.specs.Touches.{Touches, touches_none, touches_on, touches_more, touches_append}
 use Rattle.world_model.specs.Ratios.{counts-sixteen}
 use Rattle.file_names.specs.declared.Kind.TheVariants.{Shard}
 use Rattle.file_names.specs.declared.FileName.{FileName}
-use Rattle.file_names.specs.Names.{name_bytes, IsName}
+use Rattle.file_names.specs.Names.{name_bytes}
 use Rattle.file_names.specs.Laws.Name.{same_name}
 use Rattle.shard_make.specs.declared.names.ShardNames.{ShardNames}
 use Rattle.shard_make.specs.Rooms.{piece_in}

@@ -1,11 +1,12 @@
 -- Reads of the data file, one after the other.
-use Rattle.std.proofs.Common.{◌≡◌, inl, inr, ℕ, ◌+◌, ◌-◌, ◌*◌, ◌<◌, ◌≤◌, List, ◌++◌, length, take, drop, replicate, Result, Ok, Err, refl, sym, ◌∙◌, ap, subst, length-take, length-drop, length-append, arith}
-use Rattle.std.specs.Prelude.{slice_index, OnOk, IfErr, get_or}
+use Rattle.std.proofs.Common.{◌≡◌, inl, inr, ℕ, ◌+◌, ◌-◌, ◌*◌, ◌<◌, ◌≤◌, List, ◌++◌, length, take, drop, Result, Ok, Err, refl, sym, ◌∙◌, ap, subst, arith}
+use Rattle.std.specs.Prelude.{slice_index, OnOk, get_or}
 use Rattle.std.proofs.lemmas.Bool.{cases_lt}
 use Rattle.std.proofs.lemmas.List.{get_or-append_right, get_or_append_left, get_or-take, get_or-drop, get_or_past}
-use Rattle.std.proofs.Math.Nat.{mul-le-mul_right, suc-mul}
+use Rattle.std.proofs.Math.Nat.{mul-le-mul_right}
+use Rattle.site_model.specs.Disk.{Disk}
 use Rattle.site_model.specs.Counts.{Counts, CountsRead, widest_piece}
-use Rattle.site_model.specs.Laws.Count.{calls_none, calls_read, calls_on, calls_failed}
+use Rattle.site_model.specs.Laws.Count.{calls_none, calls_read, calls_on, calls_failed, takes_none, takes_on, takes_read, takes_within}
 use Rattle.shard_make.specs.Rooms.{HoldsPiece, HoldPieces, IsKeptBefore}
 use Rattle.shard_make.specs.Made.{ReadsAt}
 
@@ -13,20 +14,35 @@ pub on_ok : {A E : Type 0} {P Q : Type 0} (r : Result A E) → (P → Q) → OnO
 on_ok (Ok x) f p = f p
 on_ok (Err e) f p = tt
 
--- ---- counts
+-- ---- calls
 
-module _ {A : Type 0} {counts : A → Counts} {servers : A → ℕ} {server : ℕ} where
-  pub reads_none : (at : A) → ReadsAt counts servers server at at ⊥
-  reads_none at = record { calls = calls_none at; writes = refl }
+module _ {A : Type 0} {tells : Type 0} {disk : A → Disk} {counts : A → Counts} {count : A → ℕ} {server : ℕ} where
+  -- Nothing was called, and so nothing failed.
+  pub reads_none : {n : ℕ} {F : Type 0} (at : A) → ¬ F → ReadsAt tells disk counts count server n at at F
+  reads_none at fine = record {
+    same = λ told. refl;
+    takes = takes_within (omega arith) (omega arith) (takes_none {width = 0} (counts at));
+    calls = calls_failed fine (calls_none at);
+    writes = refl;
+  }
 
-  pub reads_on : {F G : Type 0} {old mid new : A} → ReadsAt counts servers server old mid F → ReadsAt counts servers server mid new G → ReadsAt counts servers server old new G
-  reads_on first second = record { calls = calls_on first.calls second.calls; writes = second.writes ∙ first.writes }
+  pub reads_on : {m n : ℕ} {F G : Type 0} {old mid new : A} → ReadsAt tells disk counts count server m old mid F → ReadsAt tells disk counts count server n mid new G
+      → ReadsAt tells disk counts count server (m + n) old new G
+  reads_on first second = record {
+    same = λ told. second.same told ∙ first.same told;
+    takes = takes_on first.takes second.takes;
+    calls = calls_on first.calls second.calls;
+    writes = second.writes ∙ first.writes;
+  }
 
-  pub reads_failed : {F G : Type 0} {old new : A} → (G → F) → ReadsAt counts servers server old new F → ReadsAt counts servers server old new G
-  reads_failed failed did = record { calls = calls_failed failed did.calls; writes = did.writes }
+  -- that of a failure after it
+  pub reads_failed : {n : ℕ} {F G : Type 0} {old new : A} → (G → F) → ReadsAt tells disk counts count server n old new F → ReadsAt tells disk counts count server n old new G
+  reads_failed failed did = record { same = did.same; takes = did.takes; calls = calls_failed failed did.calls; writes = did.writes }
 
-  pub reads_one : {width : ℕ} {F : Type 0} {old new : A} → width ≤ widest_piece → CountsRead server width (counts old) (counts new) F → servers new ≡ servers old → ReadsAt counts servers server old new F
-  reads_one narrow did same = record { calls = calls_read narrow did same; writes = did.writes }
+  pub reads_one : {width : ℕ} {F : Type 0} {old new : A} → width ≤ widest_piece → (tells → disk new ≡ disk old) → CountsRead server width (counts old) (counts new) F → count new ≡ count old
+      → ReadsAt tells disk counts count server 1 old new F
+  reads_one narrow same did servers =
+      record { same = same; takes = takes_within (omega arith) narrow (takes_read did); calls = calls_read narrow did servers; writes = did.writes }
 
 -- ---- bytes
 

@@ -8,11 +8,10 @@ use Rattle.std.proofs.lemmas.Grind.{same_number_lists}
 use Rattle.world_model.specs.declared.types.Ratio.{Ratio}
 use Rattle.world_model.specs.Ratios.{data_count, parity_count}
 use Rattle.site_model.specs.Disk.{Disk, grown}
-use Rattle.rs_code.specs.Codeword.{IsCodeword}
 use Rattle.rs_kernel.specs.Pieces.{column}
 use Rattle.stripe_layout.specs.declared.Geometry.{Geometry}
 use Rattle.stripe_layout.specs.Stripes.{GeometryInRange, row_width, shards_in_all}
-use Rattle.stripe_layout.specs.Rows.{all_rows, row_block, row_start, block_start}
+use Rattle.stripe_layout.specs.Rows.{all_rows, row_block, row_start}
 use Rattle.stripe_layout.specs.Laws.Rows.{row_within}
 use Rattle.image_meaning.specs.Striped.{shards_of}
 use Rattle.image_meaning.specs.Laws.Striped.{length-shard_of, data_byte_of, coded_byte_of}

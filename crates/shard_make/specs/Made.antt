@@ -4,15 +4,17 @@ use Rattle.std.specs.String.{string_bytes}
 use Rattle.site_model.specs.Disk.{File, Place, Files, LeftOf, bytes_of, grown, IsPartlyGrown, Disk}
 use Rattle.site_model.specs.Leaves.{Leaves}
 use Rattle.site_model.specs.Touches.{Touches}
-use Rattle.site_model.specs.Counts.{Counts, Rose, CallsAt, widest_piece}
+use Rattle.site_model.specs.Counts.{Counts, Rose, CallsAt, TakesCalls, widest_piece}
 use Rattle.world_model.specs.declared.types.Ratio.{Ratio}
 use Rattle.world_model.specs.Ratios.{data_count, parity_count}
 use Rattle.file_names.specs.declared.Kind.TheVariants.{Dat}
 use Rattle.file_names.specs.Names.{final_place}
 use Rattle.stripe_layout.specs.declared.Geometry.{Geometry}
+use Rattle.stripe_layout.specs.Stripes.{row_width}
 use Rattle.stripe_layout.specs.Rows.{row_block, row_start}
 use Rattle.image_meaning.specs.Striped.{shards_of}
 use Rattle.shard_make.specs.declared.names.ShardNames.{ShardNames}
+use Rattle.shard_make.specs.declared.reading.RowPieces.{RowPieces}
 use Rattle.shard_make.specs.Rooms.{HoldPieces, AreColumns, piece_in}
 use Rattle.shard_make.specs.Names.{dat_name, AreTempNames, temp_of}
 
@@ -47,6 +49,12 @@ AtShards names place = (i : ℕ) × (i < count_of names) × (place ≡ shard_pla
 abbrev pub piece_width : Geometry → ℕ → ℕ → ℕ → ℕ
 piece_width g n row at = min widest_piece (row_block g n row - at)
 
+-- the data file's pieces from a place of a row's blocks on
+pub record ArePiecesFrom (g : Geometry) (n row at : ℕ) (pieces : RowPieces) : Type 0 where
+  pub from : pieces.from ≡ row_width g * row_start g n row + at
+  pub apart : pieces.apart ≡ row_block g n row
+  pub size : pieces.size ≡ piece_width g n row at
+
 -- that of shard i, of the shards of a data file
 abbrev pub piece_of : Geometry → List ℕ → ℕ → ℕ → ℕ → List ℕ
 piece_of g dat row at i =
@@ -75,8 +83,10 @@ pub record Grows (names : ShardNames) (n : ℕ) (old new : Disk) : Type 0 where
 
 -- ---- faults
 
--- reads at this server
-pub record ReadsAt {A : Type 0} (counts : A → Counts) (count : A → ℕ) (server : ℕ) (old new : A) (is_failed : Type 0) : Type 0 where
+-- reads at this server, of which the last may have failed: nothing changes, and so many calls are made
+pub record ReadsAt {A : Type 0} (tells : Type 0) (disk : A → Disk) (counts : A → Counts) (count : A → ℕ) (server reads : ℕ) (old new : A) (is_failed : Type 0) : Type 0 where
+  pub same : tells → disk new ≡ disk old
+  pub takes : TakesCalls reads widest_piece (counts old) (counts new)
   pub calls : CallsAt counts count server old new is_failed
   pub writes : (counts new).write_faults ≡ (counts old).write_faults
 

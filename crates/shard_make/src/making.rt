@@ -3,10 +3,10 @@ ghost use Rattle.std.specs.Prelude.{◌≡◌, ◌<◌, ◌≤◌, ◌+◌, ◌*
 ghost use Rattle.site_model.specs.Counts.{Calls, TakesCalls, widest_piece};
 ghost use Rattle.world_model.specs.Sizes.{max_dat};
 ghost use Rattle.world_model.specs.Ratios.{data_count, parity_count};
-ghost use Rattle.stripe_layout.specs.Stripes.{GeometryInRange, row_width};
+ghost use Rattle.stripe_layout.specs.Stripes.{GeometryInRange};
 ghost use Rattle.stripe_layout.specs.Rows.{all_rows, row_block, row_start};
 ghost use Rattle.shard_make.specs.Rooms.{AreColumns, IsKeptBefore};
-ghost use Rattle.shard_make.specs.Made.{Grows, HavePieces, IsFault, Makes, calls_of, count_of, dat_in, piece_of, piece_width};
+ghost use Rattle.shard_make.specs.Made.{ArePiecesFrom, Grows, HavePieces, IsFault, Makes, calls_of, count_of, dat_in, piece_of, piece_width};
 
 use crate::names::ShardNames;
 use crate::reading::{RowPieces, read_pieces};
@@ -99,9 +99,7 @@ fn pieces_of_row(geometry: &Geometry, dat_size: u64, row: u64, at: u64) -> RowPi
     requires size { dat_size ≤ max_dat }
     requires row { row < all_rows geometry.now dat_size }
     requires at { at < row_block geometry.now dat_size row }
-    ensures from { result.from ≡ row_width geometry.now * row_start geometry.now dat_size row + at }
-    ensures apart { result.apart ≡ row_block geometry.now dat_size row }
-    ensures size { result.size ≡ piece_width geometry.now dat_size row at }
+    ensures { ArePiecesFrom geometry.now dat_size row at result }
 {
     let (start, block) = row_place(geometry, dat_size, row);
     RowPieces {

@@ -1,6 +1,6 @@
 //! The pieces of a row, from the data file.
 ghost use Rattle.std.specs.Prelude.{◌≡◌, ◌<◌, ◌≤◌, ◌+◌, ◌*◌, ◌^◌, ℕ, IsTrue, IsErr, IfErr, OnOk, length, slice_index, true, false};
-ghost use Rattle.site_model.specs.Counts.{TakesCalls, widest_piece};
+ghost use Rattle.site_model.specs.Counts.{widest_piece};
 ghost use Rattle.world_model.specs.Ratios.{data_count};
 ghost use Rattle.shard_make.specs.Rooms.{HoldPieces, HoldsPiece, IsKeptBefore};
 ghost use Rattle.shard_make.specs.Made.{ReadsAt, dat_in};
@@ -32,12 +32,9 @@ pub(crate) fn read_pieces<T: Site>(
     requires room { data_count names.now.ratio * row.size ≤ length room.old }
     ensures pieces { OnOk result (IsTrue T.tells → HoldPieces (dat_in names.now (T.disk site.old).files)
         room.new row.from row.apart row.size (data_count names.now.ratio)) }
-    ensures same { IsTrue T.tells → T.disk site.new ≡ T.disk site.old }
-    ensures takes { TakesCalls (data_count names.now.ratio) widest_piece (T.counts site.old)
-        (T.counts site.new) }
-    ensures runs { ReadsAt T.counts T.servers names.now.home site.old site.new (IsErr result) }
+    ensures reads { ReadsAt (IsTrue T.tells) T.disk T.counts T.servers names.now.home
+        (data_count names.now.ratio) site.old site.new (IsErr result) }
     ensures blame { IfErr result (λ fault. fault.server ≡ names.now.home) }
-    ensures size { length room.new ≡ length room.old }
 {
     for shard in 0..names.ratio.data_count() {
         read_piece(site, names, dat_size, row, shard, room)?;
@@ -63,11 +60,9 @@ fn read_piece<T: Site>(
     ensures piece { OnOk result (IsTrue T.tells → HoldsPiece (dat_in names.now (T.disk site.old).files)
         room.new (row.from + shard * row.apart) row.size shard) }
     ensures before { IsKeptBefore (shard * row.size) room.old room.new }
-    ensures same { IsTrue T.tells → T.disk site.new ≡ T.disk site.old }
-    ensures takes { TakesCalls 1 widest_piece (T.counts site.old) (T.counts site.new) }
-    ensures runs { ReadsAt T.counts T.servers names.now.home site.old site.new (IsErr result) }
+    ensures reads { ReadsAt (IsTrue T.tells) T.disk T.counts T.servers names.now.home 1
+        site.old site.new (IsErr result) }
     ensures blame { IfErr result (λ fault. fault.server ≡ names.now.home) }
-    ensures size { length room.new ≡ length room.old }
 {
     let at = row.from + u64::from(shard) * row.apart;
     let place = usize::from(shard) * row.size;
@@ -91,9 +86,8 @@ fn fill<T: Site>(
     requires narrow { length out.old ≤ widest_piece }
     ensures bytes { OnOk result (IsTrue T.tells → (j : ℕ) → j < length out.old
         → slice_index out.new j ≡ slice_index (dat_in names.now (T.disk site.old).files) (at + j)) }
-    ensures same { IsTrue T.tells → T.disk site.new ≡ T.disk site.old }
-    ensures takes { TakesCalls 1 widest_piece (T.counts site.old) (T.counts site.new) }
-    ensures runs { ReadsAt T.counts T.servers names.now.home site.old site.new (IsErr result) }
+    ensures reads { ReadsAt (IsTrue T.tells) T.disk T.counts T.servers names.now.home 1
+        site.old site.new (IsErr result) }
 {
     let count = dat_size.saturating_sub(at).min(out.len() as u64) as usize;
     out[count..].fill(0);

@@ -1,14 +1,14 @@
 -- The pieces in their order make the shards.
-use Rattle.std.proofs.Common.{◌≡◌, ℕ, zero, suc, ◌+◌, ◌-◌, ◌*◌, ◌<◌, ◌≤◌, min, List, [], ◌∷◌, ◌++◌, length, map, take, drop, Option, Some, None, refl, sym, ◌∙◌, ap, subst, arith}
+use Rattle.std.proofs.Common.{◌≡◌, ℕ, zero, suc, ◌+◌, ◌-◌, ◌*◌, ◌<◌, ◌≤◌, min, List, [], ◌∷◌, ◌++◌, length, map, take, Option, Some, None, refl, sym, ◌∙◌, ap, subst, arith}
 use Rattle.std.specs.Prelude.{flat_map, slice_index_or}
 use Rattle.std.specs.List.{AllByRecursion, range_with_len}
 use Rattle.std.proofs.lemmas.List.{take_all}
-use Rattle.std.proofs.Math.Nat.{div-mul-le_self, mul-le-mul_right, suc-mul}
+use Rattle.std.proofs.Math.Nat.{div-mul-le_self, mul-le-mul_right}
 use Rattle.std.proofs.Math.Seq.{take-add}
 use Rattle.site_model.specs.Disk.{File, AreBytes, bytes_of, grown}
 use Rattle.site_model.specs.Counts.{widest_piece}
 use Rattle.stripe_layout.specs.declared.Geometry.{Geometry}
-use Rattle.stripe_layout.specs.Stripes.{GeometryInRange, rounded_up, shards_in_all, shard_length, IsStriped}
+use Rattle.stripe_layout.specs.Stripes.{GeometryInRange, rounded_up, shard_length, IsStriped}
 use Rattle.stripe_layout.specs.Rows.{all_rows, row_block, row_start}
 use Rattle.stripe_layout.specs.Laws.Row.{rounded_up-enough}
 use Rattle.stripe_layout.specs.Laws.Rows.{row_start-first, row_start-next, row_start-all}

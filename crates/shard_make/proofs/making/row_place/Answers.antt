@@ -1,4 +1,4 @@
-use Rattle.std.proofs.Common.{◌≡◌, ◌-◌, ◌*◌, ap, arith}
+use Rattle.std.proofs.Common.{◌≡◌, ◌-◌, ◌*◌, arith}
 use Rattle.stripe_layout.specs.Stripes.{large_rows}
 use Rattle.shard_make.proofs.Located.{small_start}
 use Rattle.shard_make.proofs.making.row_place.Goals as goal

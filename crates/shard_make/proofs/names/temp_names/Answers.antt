@@ -1,6 +1,6 @@
-use Rattle.std.proofs.Common.{map, ap, arith}
+use Rattle.std.proofs.Common.{map, ap}
 use Rattle.std.specs.Prelude.{string_bytes}
-use Rattle.shard_make.proofs.Spelled.{no_names, one_more_name, all_names}
+use Rattle.shard_make.proofs.Spelled.{no_names, one_more_name}
 use Rattle.shard_make.proofs.names.temp_names.Goals as goal
 
 pub loop-shard-init : goal.loop-shard-init

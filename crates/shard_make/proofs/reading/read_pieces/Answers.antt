@@ -1,6 +1,5 @@
-use Rattle.std.proofs.Common.{◌+◌, ◌*◌, ◌∙◌, subst}
+use Rattle.std.proofs.Common.{◌+◌, ◌*◌, subst}
 use Rattle.site_model.specs.Disk.{Disk}
-use Rattle.site_model.specs.Laws.Count.{takes_on}
 use Rattle.shard_make.specs.Rooms.{HoldsPiece}
 use Rattle.shard_make.specs.Made.{dat_in}
 use Rattle.shard_make.proofs.Fetched.{pieces_next, reads_on, reads_failed}
@@ -11,12 +10,9 @@ loop-shard-preserved g c =
     let inv = c.loop-shard.invariant in
     let did = c.read_piece.ensures in
     record {
-      same = λ told. did.same told ∙ inv.same told;
-      takes = takes_on inv.takes did.takes;
-      runs = reads_on inv.runs (reads_failed (λ none. absurd none) did.runs);
-      size = did.size ∙ inv.size;
+      reads = reads_on inv.reads (reads_failed (λ none. absurd none) did.reads);
       pieces = λ told.
           pieces_next (dat_in c.args.names.now (g.T.Site.disk c.args.site.now).files) c.loop-shard.room c.read_piece.new.room c.args.row.from c.args.row.apart c.args.row.size c.loop-shard.shard
           (inv.pieces told) did.before
-          (subst (λ (d : Disk). HoldsPiece (dat_in c.args.names.now d.files) c.read_piece.new.room (c.args.row.from + c.loop-shard.shard * c.args.row.apart) c.args.row.size c.loop-shard.shard) (inv.same told) (c.in_ok-read_piece.ensures.piece told));
+          (subst (λ (d : Disk). HoldsPiece (dat_in c.args.names.now d.files) c.read_piece.new.room (c.args.row.from + c.loop-shard.shard * c.args.row.apart) c.args.row.size c.loop-shard.shard) (inv.reads.same told) (c.in_ok-read_piece.ensures.piece told));
     }

@@ -1,7 +1,6 @@
-use Rattle.std.proofs.Common.{arith, refl}
-use Rattle.world_model.specs.Ratios.{data_count, parity_count}
+use Rattle.std.proofs.Common.{arith}
 use Rattle.site_model.specs.Laws.Count.{takes_none, takes_on, takes_within, takes_write, calls_nowhere, calls_on_anywhere, calls_untold, calls_anywhere, calls_write}
-use Rattle.shard_make.proofs.Appended.{appended_none, appended_next, appended_partly, appended_grow, appended_all}
+use Rattle.shard_make.proofs.Appended.{appended_none, appended_next, appended_partly, appended_grow}
 use Rattle.shard_make.proofs.writing.append_pieces.Goals as goal
 
 pub loop-shard-init : goal.loop-shard-init

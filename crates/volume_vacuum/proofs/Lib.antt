@@ -4,7 +4,6 @@ mod Sorted
 mod Laid
 mod Checked
 mod Copied
-mod Apart
 mod Held
 mod Renames
 mod Whole

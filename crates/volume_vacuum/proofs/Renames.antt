@@ -7,12 +7,12 @@ use Rattle.site_model.specs.Leaves.{Leaves, starts, now, by_rename}
 use Rattle.site_model.specs.Touches.{Touches, touches_on, touches_more, touches_rename}
 use Rattle.file_names.specs.declared.Kind.{Kind}
 use Rattle.file_names.specs.declared.Kind.TheVariants.{Dat, Idx, Cpd, Cpx}
-use Rattle.file_names.specs.Names.{IsPlainKind, place_of}
+use Rattle.file_names.specs.Names.{place_of}
 use Rattle.image_meaning.specs.Files.{files_of}
 use Rattle.image_meaning.specs.Meaning.{max_volumes}
 use Rattle.image_meaning.specs.Laws.Vacuum.{IsHeldAlone}
-use Rattle.volume_vacuum.specs.Home.{IsPlainFile, IsOnlyHolder, AreHeldFirm, AreWritten, IsHeldByEither, NamesFiles, AreRenamed}
-use Rattle.volume_vacuum.proofs.Apart.{kinds_apart, temp_apart, dat_idx, dat_cpd, dat_cpx, idx_cpd, idx_cpx, cpd_cpx, turned}
+use Rattle.volume_vacuum.specs.Home.{IsTouchable, IsTouched, IsOnlyHolder, AreHeldFirm, AreWritten, IsHeldByEither, NamesFiles, AreRenamed}
+use Rattle.volume_vacuum.specs.Laws.Apart.{kinds_apart, temp_apart, dat_idx, dat_cpd, dat_cpx, idx_cpd, idx_cpx, cpd_cpx, turned}
 use Rattle.volume_vacuum.proofs.Held.{none_left, whole_left, HasNoOther, held_named, held_beside, held_between}
 
 -- the place of a name at the server
@@ -198,15 +198,15 @@ module _ (server v : ℕ) (small : v < max_volumes) where
 
     -- ---- what is touched
 
-    plain_touch : (a b : Kind) (x y : Bool) {from to : Disk} → IsPlainKind a → IsPlainKind b → Renames (place_of v server a x) (place_of v server b y) from to → Touches (IsPlainFile server v) from to
-    plain_touch a b x y is_a is_b did = touches_more (λ k is. ⊎_elim (λ e. (a, x, is_a, e)) (λ e. (b, y, is_b, e)) is) (touches_rename did)
+    touched : (a b : Kind) (x y : Bool) {from to : Disk} → IsTouchable a x → IsTouchable b y → Renames (place_of v server a x) (place_of v server b y) from to → Touches (IsTouched server v) from to
+    touched a b x y is_a is_b did = touches_more (λ k is. ⊎_elim (λ e. (a, x, is_a, e)) (λ e. (b, y, is_b, e)) is) (touches_rename did)
 
     pub names1 : NamesFiles server v old s1
-    names1 = record { touches = plain_touch Cpd Cpd true false tt tt first; leaves = λ dat idx new_dat new_idx written. leaves1 dat idx new_dat new_idx written }
+    names1 = record { touches = touched Cpd Cpd true false tt tt first; leaves = λ dat idx new_dat new_idx written. leaves1 dat idx new_dat new_idx written }
 
     module _ {s2 : Disk} (done : IsRenamed (temp Cpd) (at Cpd) old.files s1.files) (second : Renames (temp Cpx) (at Cpx) s1 s2) where
       pub names2 : NamesFiles server v old s2
-      names2 = record { touches = touches_on names1.touches (plain_touch Cpx Cpx true false tt tt second); leaves = λ dat idx new_dat new_idx written. leaves2 dat idx new_dat new_idx written done second }
+      names2 = record { touches = touches_on names1.touches (touched Cpx Cpx true false tt tt second); leaves = λ dat idx new_dat new_idx written. leaves2 dat idx new_dat new_idx written done second }
 
       -- the data file stands until it has its last name
       pub second_cpd : s2.files (at Cpd) ≡ old.files (temp Cpd)
@@ -215,7 +215,7 @@ module _ (server v : ℕ) (small : v < max_volumes) where
       module _ {s3 : Disk} (second_done : IsRenamed (temp Cpx) (at Cpx) s1.files s2.files) (third : Renames (at Cpd) (at Dat) s2 s3) where
         pub names3 : NamesFiles server v old s3
         names3 = record {
-          touches = touches_on names2.touches (plain_touch Cpd Dat false false tt tt third);
+          touches = touches_on names2.touches (touched Cpd Dat false false tt tt third);
           leaves = λ dat idx new_dat new_idx written. leaves3 dat idx new_dat new_idx written done second second_done third;
         }
 
@@ -228,7 +228,7 @@ module _ (server v : ℕ) (small : v < max_volumes) where
         module _ {s4 : Disk} (third_done : IsRenamed (at Cpd) (at Dat) s2.files s3.files) (fourth : Renames (at Cpx) (at Idx) s3 s4) where
           pub names4 : NamesFiles server v old s4
           names4 = record {
-            touches = touches_on names3.touches (plain_touch Cpx Idx false false tt tt fourth);
+            touches = touches_on names3.touches (touched Cpx Idx false false tt tt fourth);
             leaves = λ dat idx new_dat new_idx written. leaves4 dat idx new_dat new_idx written done second second_done third third_done fourth;
           }
 

@@ -24,13 +24,13 @@ use Rattle.volume_vacuum.specs.Live.{live_records, vacuumed, raised, new_dat, ne
 use Rattle.volume_vacuum.specs.Laws.Lives.{live-all, live-content}
 use Rattle.volume_vacuum.specs.Laws.Moves.{vacuumed-exact, length-new_dat}
 use Rattle.volume_vacuum.specs.Copies.{IsByPlace, moved_entries, moved_end, with_all, index_bytes, copied, EndWithin, overlap, headers_damage, TellsFirst}
-use Rattle.volume_vacuum.specs.Home.{IsNamed, dat_named, own_dat, IsPlainFile, AreHeldFirm, AreWritten, IsHeldByEither, NamesFiles, AreRenamed, Replaces, AreReplaced}
+use Rattle.volume_vacuum.specs.Home.{IsNamed, dat_named, own_dat, IsTouched, AreHeldFirm, AreWritten, IsHeldByEither, NamesFiles, AreRenamed, Replaces, AreReplaced}
 use Rattle.volume_vacuum.specs.declared.home.Home.{Home}
 use Rattle.volume_vacuum.specs.declared.preparing.Plan.{Plan}
 use Rattle.volume_vacuum.specs.Vacuum.{HoldsRecords, Vacuums, IsPrepared, IsVacuumed, vacuum_damage, IsRefusal}
 use Rattle.volume_vacuum.proofs.Entries.{moved-index, moved-bytes, moved_end-records, copied-records, raised-front, Apart, apart-records, apart-live, overlap-none, headers-right}
 use Rattle.volume_vacuum.proofs.Sorted.{live-by_place}
-use Rattle.volume_vacuum.proofs.Apart.{kinds_apart, temp_apart, servers_apart, plain_kind, cpd_cpx}
+use Rattle.volume_vacuum.specs.Laws.Apart.{kinds_apart, temp_apart, servers_apart, plain_kind, cpd_cpx}
 use Rattle.volume_vacuum.proofs.Renames.{held_left}
 use Rattle.volume_vacuum.proofs.Checked.{both_none, second_none, headers_within}
 
@@ -91,9 +91,9 @@ module _ (server v : ℕ) (small : v < max_volumes) where
   abbrev IsTemp : Place → Type 0
   IsTemp k = (k ≡ place_of v server Cpd true) ⊎ (k ≡ place_of v server Cpx true)
 
-  temp_plain : (k : Place) → IsTemp k → IsPlainFile server v k
-  temp_plain k (inl e) = (Cpd, true, tt, e)
-  temp_plain k (inr e) = (Cpx, true, tt, e)
+  temp_touched : (k : Place) → IsTemp k → IsTouched server v k
+  temp_touched k (inl e) = (Cpd, true, tt, e)
+  temp_touched k (inr e) = (Cpx, true, tt, e)
 
   no_temp : (s : ℕ) (kind : Kind) → IsPlainKind kind → ¬ IsTemp (place_of v s kind false)
   no_temp s kind is temp = ⊎_elim (λ e. temp_apart v s server kind Cpd small (plain_kind kind is) tt e) (λ e. temp_apart v s server kind Cpx small (plain_kind kind is) tt e) temp
@@ -107,7 +107,7 @@ module _ (server v : ℕ) (small : v < max_volumes) where
         (λ s kind other. left.0 (place_of v s kind false) (λ is. ⊎_elim (servers_apart v s server kind Cpd false true other) (servers_apart v s server kind Cpx false true other) is))))
 
     pub replaces_temps : (new_dat new_idx : List ℕ) → Replaces server v new_dat new_idx old new
-    replaces_temps new_dat new_idx = record { touches = touches_more temp_plain only; leaves = λ dat idx held. temps_leave dat idx new_dat new_idx held }
+    replaces_temps new_dat new_idx = record { touches = touches_more temp_touched only; leaves = λ dat idx held. temps_leave dat idx new_dat new_idx held }
 
     temps_held : (dat idx : List ℕ) → AreHeldFirm server v old.files dat idx → AreHeldFirm server v new.files dat idx
     temps_held dat idx held = record {
@@ -137,7 +137,7 @@ module _ (server v : ℕ) (small : v < max_volumes) where
 
     pub replaces_all : {new : Disk} → NamesFiles server v last new → Replaces server v new_dat new_idx old new
     replaces_all {new} names = record {
-      touches = touches_on (touches_more temp_plain (both_temps first second)) names.touches;
+      touches = touches_on (touches_more temp_touched (both_temps first second)) names.touches;
       leaves = λ dat idx held. joins (temps_leave (both_temps first second) dat idx new_dat new_idx held) (names.leaves dat idx new_dat new_idx (written dat idx held));
     }
 
@@ -179,7 +179,7 @@ module _ (volume : DatVolume) {files : Files} {es : List Entry} {front bytes : L
   -- the volume in memory goes with the new files
   pub is_vacuumed : {made : DatVolume} {old new : Disk} {index : Index} {end : ℕ} → old.files ≡ files → vacuum_damage (dat_in files volume.server volume.volume) es ≡ None → AreBytes (dat_in files volume.server volume.volume)
       → made ≡ record { server = volume.server; volume = volume.volume; index = index; used = end } → index ≡ with_all empty (moved_entries 8 es) → end ≡ moved_end 8 es
-      → Touches (IsPlainFile volume.server volume.volume) old new → AreReplaced volume.server volume.volume (raised front ++ copied (dat_in files volume.server volume.volume) es) bytes new.files
+      → Touches (IsTouched volume.server volume.volume) old new → AreReplaced volume.server volume.volume (raised front ++ copied (dat_in files volume.server volume.volume) es) bytes new.files
       → IsVacuumed volume made old.files new.files
   is_vacuumed {made} {old} {new} {index} {end} same undamaged are_bytes is is_index is_end touches done = record {
     holds = λ dat idx ps holds.
@@ -195,8 +195,8 @@ module _ (volume : DatVolume) {files : Files} {es : List Entry} {front bytes : L
             only = record {
               below = here.only.below;
               unmade = done.no_cpx;
-              no_idx = λ s below other. touches.others (place_of volume.volume s Idx false) (no_plain s Idx false other) ∙ ap (λ (f : Files). f (place_of volume.volume s Idx false)) same ∙ here.only.no_idx s below other;
-              no_cpx = λ s below other. touches.others (place_of volume.volume s Cpx false) (no_plain s Cpx false other) ∙ ap (λ (f : Files). f (place_of volume.volume s Cpx false)) same ∙ here.only.no_cpx s below other;
+              no_idx = λ s below other. touches.others (place_of volume.volume s Idx false) (not_touched s Idx false other) ∙ ap (λ (f : Files). f (place_of volume.volume s Idx false)) same ∙ here.only.no_idx s below other;
+              no_cpx = λ s below other. touches.others (place_of volume.volume s Cpx false) (not_touched s Cpx false other) ∙ ap (λ (f : Files). f (place_of volume.volume s Cpx false)) same ∙ here.only.no_cpx s below other;
             };
             live = is_index ∙ exact_index dat idx ps here.firm.exact es (by_records here);
           },
@@ -208,8 +208,8 @@ module _ (volume : DatVolume) {files : Files} {es : List Entry} {front bytes : L
     no_cpx_temp = done.no_cpx_temp;
   }
     where
-      no_plain : (s : ℕ) (kind : Kind) (temp : Bool) → s ≢ volume.server → ¬ IsPlainFile volume.server volume.volume (place_of volume.volume s kind temp)
-      no_plain s kind temp other (k, t, is, e) = servers_apart volume.volume s volume.server kind k temp t other e
+      not_touched : (s : ℕ) (kind : Kind) (temp : Bool) → s ≢ volume.server → ¬ IsTouched volume.server volume.volume (place_of volume.volume s kind temp)
+      not_touched s kind temp other (k, t, is, e) = servers_apart volume.volume s volume.server kind k temp t other e
 
 -- ---- refusals
 

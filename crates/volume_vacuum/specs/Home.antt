@@ -5,7 +5,7 @@ use Rattle.site_model.specs.Disk.{Place, Files, firm_file, bytes_of, Disk}
 use Rattle.site_model.specs.Leaves.{Leaves}
 use Rattle.site_model.specs.Touches.{Touches}
 use Rattle.file_names.specs.declared.Kind.{Kind}
-use Rattle.file_names.specs.declared.Kind.TheVariants.{Dat, Idx, Cpd, Cpx}
+use Rattle.file_names.specs.declared.Kind.TheVariants.{Dat, Idx, Cpd, Cpx, Shard, Ecx, Ecj, Vif}
 use Rattle.file_names.specs.Names.{IsPlainKind, name_bytes, place_of}
 use Rattle.image_meaning.specs.Files.{VolumeFiles, files_of}
 use Rattle.image_meaning.specs.Meaning.{max_volumes}
@@ -50,9 +50,24 @@ own_dat files home = bytes_of (files (dat_named home))
 
 -- ---- what is touched
 
--- a file of the plain form, or a temporary one
-abbrev pub IsPlainFile : ℕ → ℕ → Place → Type 0
-IsPlainFile server v k = (kind : Kind) × (temp : Bool) × IsPlainKind kind × (k ≡ place_of v server kind temp)
+-- the kinds that a vacuum makes
+abbrev pub IsMadeKind : Kind → Type 0
+IsMadeKind Dat = ⊥
+IsMadeKind Idx = ⊥
+IsMadeKind Cpd = Unit {0}
+IsMadeKind Cpx = Unit {0}
+IsMadeKind (Shard i) = ⊥
+IsMadeKind Ecx = ⊥
+IsMadeKind Ecj = ⊥
+IsMadeKind Vif = ⊥
+
+-- the files of the plain form, and the temporary ones of the made kinds
+abbrev pub IsTouchable : Kind → Bool → Type 0
+IsTouchable kind false = IsPlainKind kind
+IsTouchable kind true = IsMadeKind kind
+
+abbrev pub IsTouched : ℕ → ℕ → Place → Type 0
+IsTouched server v k = (kind : Kind) × (temp : Bool) × IsTouchable kind temp × (k ≡ place_of v server kind temp)
 
 -- ---- which files stand
 
@@ -81,7 +96,7 @@ IsHeldByEither files home dat idx new_dat new_idx = IsHeldAlone files home dat i
 
 -- The renames: a stop leaves the volume held by the old files or by the new ones.
 pub record NamesFiles (server v : ℕ) (old new : Disk) : Type 0 where
-  pub touches : Touches (IsPlainFile server v) old new
+  pub touches : Touches (IsTouched server v) old new
   pub leaves : (dat idx new_dat new_idx : List ℕ) → AreWritten server v old.files dat idx new_dat new_idx
       → Leaves old new (λ image said. IsHeldByEither (files_of image v) server dat idx new_dat new_idx)
 
@@ -96,7 +111,7 @@ pub record AreRenamed (server v : ℕ) (old new : Files) : Type 0 where
 
 -- The new files are written, and take the place of the old ones.
 pub record Replaces (server v : ℕ) (new_dat new_idx : List ℕ) (old new : Disk) : Type 0 where
-  pub touches : Touches (IsPlainFile server v) old new
+  pub touches : Touches (IsTouched server v) old new
   pub leaves : (dat idx : List ℕ) → AreHeldFirm server v old.files dat idx → Leaves old new (λ image said. IsHeldByEither (files_of image v) server dat idx new_dat new_idx)
 
 pub record AreReplaced (server v : ℕ) (new_dat new_idx : List ℕ) (new : Files) : Type 0 where

@@ -18,7 +18,7 @@ use Rattle.dat_volume.specs.Needles.{Damage, damage_of, first_damage, HasDiffere
 use Rattle.dat_volume.specs.Places.{AreFirmRecords, dat_in}
 use Rattle.volume_vacuum.specs.Live.{vacuumed, new_dat, new_idx}
 use Rattle.volume_vacuum.specs.Copies.{IsByPlace, moved_entries, moved_end, with_all, index_bytes, overlap, headers_damage}
-use Rattle.volume_vacuum.specs.Home.{IsNamed, IsPlainFile, IsOnlyHolder, IsHeldByEither}
+use Rattle.volume_vacuum.specs.Home.{IsNamed, IsTouched, IsOnlyHolder, IsHeldByEither}
 use Rattle.volume_vacuum.specs.declared.preparing.Plan.{Plan}
 
 -- The volume's two files are these records and their entries to the end, firm, and no other index of it stands. Its index in
@@ -30,7 +30,7 @@ pub record HoldsRecords (volume : DatVolume) (files : Files) (dat idx : List ℕ
 
 -- A stop leaves the volume held by the old two files or by the new two.
 pub record Vacuums (volume : DatVolume) (old new : Disk) : Type 0 where
-  pub touches : Touches (IsPlainFile volume.server volume.volume) old new
+  pub touches : Touches (IsTouched volume.server volume.volume) old new
   pub leaves : (dat idx : List ℕ) (ps : List Placed) → HoldsRecords volume old.files dat idx ps
       → Leaves old new (λ image said. IsHeldByEither (files_of image volume.volume) volume.server dat idx (new_dat dat ps) (new_idx ps))
 

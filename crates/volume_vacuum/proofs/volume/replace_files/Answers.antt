@@ -3,7 +3,7 @@ use Rattle.site_model.specs.Disk.{Place, firm_file}
 use Rattle.file_names.specs.declared.Kind.TheVariants.{Dat, Cpd}
 use Rattle.volume_vacuum.specs.Copies.{copied}
 use Rattle.volume_vacuum.specs.Home.{own_dat}
-use Rattle.volume_vacuum.proofs.Apart.{temp_apart}
+use Rattle.volume_vacuum.specs.Laws.Apart.{temp_apart}
 use Rattle.volume_vacuum.proofs.Copied.{touch_at}
 use Rattle.volume_vacuum.proofs.Renames.{named_at}
 use Rattle.volume_vacuum.proofs.Whole.{first_temp, both_temps, replaces_temps, replaces_all, are_replaced}

@@ -9,18 +9,18 @@ use Rattle.file_names.specs.Laws.Name.{same_name}
 use Rattle.image_meaning.specs.Meaning.{max_volumes}
 
 -- a place tells the kind, and whether the file is temporary
-tells : (v s t : ℕ) (a b : Kind) (x y : Bool) → v < max_volumes → IsKind a → IsKind b → place_of v s a x ≡ place_of v t b y → (a ≡ b) × (x ≡ y)
-tells v s t a b x y small is_a is_b e =
+pub place_tells : (v s t : ℕ) (a b : Kind) (x y : Bool) → v < max_volumes → IsKind a → IsKind b → place_of v s a x ≡ place_of v t b y → (a ≡ b) × (x ≡ y)
+place_tells v s t a b x y small is_a is_b e =
     let f : FileName = record { volume = v; kind = a; temp = x } in
     let g : FileName = record { volume = v; kind = b; temp = y } in
     let one : f ≡ g = same_name f g (record { volume = small; kind = is_a }) (record { volume = small; kind = is_b }) (ap (λ (q : Place). q.1) e) in
     (ap (λ (n : FileName). n.kind) one, ap (λ (n : FileName). n.temp) one)
 
 pub kinds_apart : (v s t : ℕ) (a b : Kind) (x y : Bool) → v < max_volumes → IsKind a → IsKind b → a ≢ b → place_of v s a x ≢ place_of v t b y
-kinds_apart v s t a b x y small is_a is_b other e = other (tells v s t a b x y small is_a is_b e).0
+kinds_apart v s t a b x y small is_a is_b other e = other (place_tells v s t a b x y small is_a is_b e).0
 
 pub temp_apart : (v s t : ℕ) (a b : Kind) → v < max_volumes → IsKind a → IsKind b → place_of v s a false ≢ place_of v t b true
-temp_apart v s t a b small is_a is_b e = let marks : ◌≡◌ {A = Bool} false true = (tells v s t a b false true small is_a is_b e).1 in absurd cc
+temp_apart v s t a b small is_a is_b e = let marks : ◌≡◌ {A = Bool} false true = (place_tells v s t a b false true small is_a is_b e).1 in absurd cc
 
 pub servers_apart : (v s t : ℕ) (a b : Kind) (x y : Bool) → s ≢ t → place_of v s a x ≢ place_of v t b y
 servers_apart v s t a b x y other e = other (ap (λ (q : Place). q.0) e)

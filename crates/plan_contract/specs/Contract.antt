@@ -44,7 +44,7 @@ last_found true Registered found e = absurd (true≢false (sym e))
 last_found false Registered found e = absurd (true≢false (sym found))
 last_found b Gone found e = refl
 
-over : (r : running.Running) → left_of r.plan r.states r.place ≡ 0 → IsOver r
+pub over : (r : running.Running) → left_of r.plan r.states r.place ≡ 0 → IsOver r
 over r none =
     let all : AreFinished r.plan r.states = (no_step_ends r.plan r.states r.place).0 ((left_none r.plan r.states r.place).0 none) in
     record {
@@ -52,7 +52,7 @@ over r none =
       removed = λ j s at found. last_found (is_found r.plan r.plan.command s.server s.kind) s.stage found (all j s at);
     }
 
-pub plans : Plans
+abbrev pub plans : Plans
 plans = record {
   Running = PlannedRun;
   plan = λ r. told r.run.plan;

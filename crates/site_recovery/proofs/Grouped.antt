@@ -1,15 +1,15 @@
 -- The files of a list by rising volume, volume by volume.
-use Rattle.std.proofs.Common.{◌≡◌, ◌≢◌, inl, inr, ℕ, ◌+◌, ◌-◌, ◌<◌, ◌≤◌, List, [], ◌∷◌, ◌++◌, length, map, refl, sym, ◌∙◌, ap, subst, arith}
-use Rattle.std.specs.Prelude.{slice_index_or}
+use Rattle.std.proofs.Common.{◌≡◌, ◌≢◌, inl, inr, ℕ, ◌+◌, ◌-◌, ◌<◌, ◌≤◌, List, [], ◌∷◌, ◌++◌, length, map, drop, refl, sym, ◌∙◌, ap, subst, arith}
+use Rattle.std.specs.Prelude.{slice_index_or, slice_range}
 use Rattle.std.specs.List.{All, Any}
 use Rattle.std.specs.List.Sorted.{IsNonDecreasingBy, IsStrictlyIncreasing}
 use Rattle.std.proofs.lemmas.Bool.{cases_eq, cases_lt}
-use Rattle.std.proofs.lemmas.List.{get_or_default, get_or_append_left, get_or_push, map-append}
+use Rattle.std.proofs.lemmas.List.{get_or-drop, get_or-take, length-drop, length-take-le, get_or_default, get_or_append_left, get_or_push, map-append}
 use Rattle.std.proofs.lemmas.List.Elements.{All-nil, All-push, All-weaker, All-map, All-get_or}
 use Rattle.std.proofs.Math.ListN.{length-append}
 use Rattle.site_recovery.specs.declared.forms.Listed.{Listed}
 use Rattle.site_recovery.specs.declared.forms.Group.{Group}
-use Rattle.site_recovery.specs.Listing.{StartsAt, EndsAt, IsGroup, AreGroups}
+use Rattle.site_recovery.specs.Listing.{AreThoseOf, StartsAt, EndsAt, IsGroup, AreGroups}
 
 -- a greater number behind rising ones
 rising_push : (xs : List ℕ) (y : ℕ) → IsStrictlyIncreasing xs → All (λ x. x < y) xs → IsStrictlyIncreasing (xs ++ y ∷ [])
@@ -174,3 +174,31 @@ module _ (found : List Listed) where
           where
             less : (a b c e : ℕ) → b ≡ a → b ≤ c → c ≤ e → c ≢ e → a < e
             less a b c e p q r s = omega arith
+
+-- ---- the files of one group
+
+module _ (found : List Listed) (g : Group) (is : IsGroup found g) where
+  abbrev its : List Listed
+  its = slice_range found g.start g.end
+
+  long : length its ≡ g.end - g.start
+  long = length-take-le (g.end - g.start) (drop g.start found) (omega (arith, length-drop g.start found, is.some, is.within))
+
+  at_place : (k : ℕ) (d : Listed) → k < g.end - g.start → slice_index_or its k d ≡ slice_index_or found (g.start + k) d
+  at_place k d low = get_or-take (g.end - g.start) (drop g.start found) k d low ∙ get_or-drop g.start found k d
+
+  pub those_in : AreThoseOf g.volume found its
+  those_in l = (
+    λ has.
+        let low : has.0 < g.end - g.start = omega (arith, has.1, long) in
+        let there : slice_index_or found (g.start + has.0) l ≡ l = sym (at_place has.0 l low) ∙ has.2 in (
+          (g.start + has.0, omega (arith, low, is.within), there),
+          ap (λ (m : Listed). m.file.volume) (sym there) ∙ is.same (g.start + has.0) l (omega arith) (omega (arith, low)),
+        ),
+    λ both.
+        let has = both.0 in
+        let within = is.all has.0 l has.1 (ap (λ (m : Listed). m.file.volume) has.2 ∙ both.1) in
+        let low : has.0 - g.start < g.end - g.start = omega (arith, within.0, within.1) in
+        let place : g.start + (has.0 - g.start) ≡ has.0 = omega (arith, within.0) in
+        (has.0 - g.start, omega (arith, low, long), at_place (has.0 - g.start) l low ∙ ap (λ (k : ℕ). slice_index_or found k l) place ∙ has.2),
+  )

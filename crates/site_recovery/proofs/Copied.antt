@@ -11,7 +11,7 @@ use Rattle.site_model.specs.Disk as disk
 use Rattle.site_model.specs.Counts.{max_servers}
 use Rattle.file_names.specs.declared.Kind.{Kind}
 use Rattle.file_names.specs.declared.Kind.TheVariants.{Dat, Idx, Cpd, Cpx, Shard, Ecx, Ecj, Vif}
-use Rattle.file_names.specs.Names.{IsKind, max_shards, name_bytes, place_of}
+use Rattle.file_names.specs.Names.{IsKind, IsName, max_shards, name_bytes, place_of}
 use Rattle.image_meaning.specs.Files.{contents, files_of}
 use Rattle.image_meaning.specs.Meaning.{max_volumes}
 use Rattle.image_meaning.specs.Sound.{Stands}
@@ -61,42 +61,50 @@ standing_some : (o : Option disk.File) → is_some (disk.standing o) ≡ true �
 standing_some None st = absurd (true≢false (sym st))
 standing_some (Some file) st = refl
 
-module _ (files : Files) (v : ℕ) (h : v < max_volumes) (servers : ℕ) (few : servers ≤ max_servers) (its : List Listed) (are : AreFilesOf files v its) (low : All (λ (l : Listed). l.server < servers) its)
-    (copies : List ShardCopy) (same : IsPermutation (filter_map copy_of its) copies) where
+-- what holds of all files holds of those of a volume
+pub those_all : (P : Listed → Type 0) (v : ℕ) (found its : List Listed) → AreThoseOf v found its → All P found → All P its
+those_all P v found its those all k d lt = All-contains P found (slice_index_or its k d) all ((those (slice_index_or its k d)).0 (Contains-get_or its k d lt)).0
+
+module _ (its : List Listed) (copies : List ShardCopy) (same : IsPermutation (filter_map copy_of its) copies) where
   -- the file of a copy
   file_of : (c : ShardCopy) → Contains copies c → (l : Listed) × Contains its l × IsCopyOf l c
   file_of c has =
       let found = filter_map_has copy_of its c (Contains-permutation copies (filter_map copy_of its) c (IsPermutation-sym (filter_map copy_of its) copies same) has) in
       (found.0, found.1, copy_is found.0 c found.2)
 
-  below : (c : ShardCopy) → Contains copies c → c.server < servers
-  below c has = let file = file_of c has in subst (λ s. s < servers) file.2.server (All-contains (λ (l : Listed). l.server < servers) its file.0 low file.1)
+  module _ (servers : ℕ) (low : All (λ (l : Listed). l.server < servers) its) where
+    below : (c : ShardCopy) → Contains copies c → c.server < servers
+    below c has = let file = file_of c has in subst (λ s. s < servers) file.2.server (All-contains (λ (l : Listed). l.server < servers) its file.0 low file.1)
 
-  number : (c : ShardCopy) → Contains copies c → c.shard < max_shards
-  number c has = let file = file_of c has in subst IsKind file.2.kind ((are file.0).0 file.1).0.named.kind
+    pub copies_are : All (λ (l : Listed). IsName l.file) its → IsNonDecreasingBy (λ (c : ShardCopy). c.server) copies → 0 < length copies → AreCopies servers copies
+    copies_are named rise some = record {
+      some = some;
+      rise = λ i j d less lt. rise i j d (omega arith) lt;
+      on_servers = λ k d lt. below (slice_index_or copies k d) (Contains-get_or copies k d lt);
+      numbers = λ k d lt. number (slice_index_or copies k d) (Contains-get_or copies k d lt);
+    }
+      where
+        number : (c : ShardCopy) → Contains copies c → c.shard < max_shards
+        number c has =
+            let file = file_of c has in
+            let is : IsName file.0.file = All-contains (λ (l : Listed). IsName l.file) its file.0 named file.1 in
+            subst IsKind file.2.kind is.kind
 
-  stands_there : (c : ShardCopy) → Contains copies c → Stands (files_of (contents files) v) c.server (Shard c.shard)
-  stands_there c has =
-      let file = file_of c has in
-      let is = (are file.0).0 file.1 in
-      let place : (file.0.server, name_bytes file.0.file) ≡ (c.server, name_bytes (record { volume = v; kind = Shard c.shard; temp = false })) =
-      λ i. (file.2.server i, name_bytes (record { volume = is.1 i; kind = file.2.kind i; temp = file.2.final i })) in
-      (omega (arith, below c has, few), some_standing (files (place_of v c.server (Shard c.shard) false)) (subst (λ (k : ℕ × List ℕ). IsSome (files k)) place is.0.stands))
+    module _ (few : servers ≤ max_servers) (files : Files) (v : ℕ) (h : v < max_volumes) (are : AreFilesOf files v its) where
+      stands_there : (c : ShardCopy) → Contains copies c → Stands (files_of (contents files) v) c.server (Shard c.shard)
+      stands_there c has =
+          let file = file_of c has in
+          let is = (are file.0).0 file.1 in
+          let place : (file.0.server, name_bytes file.0.file) ≡ (c.server, name_bytes (record { volume = v; kind = Shard c.shard; temp = false })) =
+          λ i. (file.2.server i, name_bytes (record { volume = is.1 i; kind = file.2.kind i; temp = file.2.final i })) in
+          (omega (arith, below c has, few), some_standing (files (place_of v c.server (Shard c.shard) false)) (subst (λ (k : ℕ × List ℕ). IsSome (files k)) place is.0.stands))
 
-  pub copies_stand : AreStanding (files_of (contents files) v) copies
-  copies_stand = record {
-    stand = λ k d lt. stands_there (slice_index_or copies k d) (Contains-get_or copies k d lt);
-    all = λ server i small st.
-        let l : Listed = record { server = server; file = record { volume = v; kind = Shard i; temp = false } } in
-        let has = (are l).1 (record { named = record { volume = h; kind = small }; stands = standing_some (files (place_of v server (Shard i) false)) st.1 }, refl) in
-        Contains-permutation (filter_map copy_of its) copies (record { server = server; shard = i }) same
-        (filter_map_in copy_of its l (record { server = server; shard = i }) has refl);
-  }
-
-  pub copies_are : IsNonDecreasingBy (λ (c : ShardCopy). c.server) copies → 0 < length copies → AreCopies servers copies
-  copies_are rise some = record {
-    some = some;
-    rise = λ i j d less lt. rise i j d (omega arith) lt;
-    on_servers = λ k d lt. below (slice_index_or copies k d) (Contains-get_or copies k d lt);
-    numbers = λ k d lt. number (slice_index_or copies k d) (Contains-get_or copies k d lt);
-  }
+      pub copies_stand : AreStanding (files_of (contents files) v) copies
+      copies_stand = record {
+        stand = λ k d lt. stands_there (slice_index_or copies k d) (Contains-get_or copies k d lt);
+        all = λ server i small st.
+            let l : Listed = record { server = server; file = record { volume = v; kind = Shard i; temp = false } } in
+            let has = (are l).1 (record { named = record { volume = h; kind = small }; stands = standing_some (files (place_of v server (Shard i) false)) st.1 }, refl) in
+            Contains-permutation (filter_map copy_of its) copies (record { server = server; shard = i }) same
+            (filter_map_in copy_of its l (record { server = server; shard = i }) has refl);
+      }

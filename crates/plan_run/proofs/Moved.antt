@@ -86,7 +86,7 @@ set_map test g (x ∷ xs) (suc j) s at passes only = λ i. first i ∷ set_map t
     first : x ≡ (if test x then g x else x)
     first = idle (test x) refl
 
-set_file : (server : ℕ) (kind : Kind) (g : FileState → FileState) (states : List FileState) (j : ℕ) (s : FileState) → AreStates states → slice_get states j ≡ Some s → s.server ≡ server → s.kind ≡ kind
+pub set_file : (server : ℕ) (kind : Kind) (g : FileState → FileState) (states : List FileState) (j : ℕ) (s : FileState) → AreStates states → slice_get states j ≡ Some s → s.server ≡ server → s.kind ≡ kind
     → slice_set states j (g s) ≡ map (λ u. if is_file server kind u then g u else u) states
 set_file server kind g states j s are at a b =
     set_map (is_file server kind) g states j s at (is_this server kind s a b)

@@ -135,3 +135,19 @@ row_told (Shard i) place row = slice_set row i place
 row_told Ecx place row = row
 row_told Ecj place row = row
 row_told Vif place row = row
+
+-- a step that neither names nor removes a shard
+abbrev pub LeavesShards : Step → Type 0
+LeavesShards (PutInfo server) = Unit {0}
+LeavesShards (WriteEntries at) = Unit {0}
+LeavesShards (PutJournal server at) = Unit {0}
+LeavesShards (MakePiece row at) = Unit {0}
+LeavesShards (MendPiece at) = Unit {0}
+LeavesShards (JoinPiece row block at) = Unit {0}
+LeavesShards (JoinDeletes at) = Unit {0}
+LeavesShards (CopyPiece from to kind at) = Unit {0}
+LeavesShards (Sync server kind) = Unit {0}
+LeavesShards (Register server kind) = ⊥
+LeavesShards (Unregister server kind) = ⊥
+LeavesShards (DropIndex server) = Unit {0}
+LeavesShards (DropData server) = Unit {0}

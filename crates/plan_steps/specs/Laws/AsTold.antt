@@ -1,6 +1,6 @@
 -- Files that fit a progress stand as the plan says, and each call of a step that succeeds leaves them so.
 -- For `run_step` of the running plans of `plan_run`, to come.
-use Rattle.std.proofs.Common.{◌≡◌, ◌≢◌, ◌⊎◌, inl, inr, ⊎_elim, ℕ, zero, suc, ◌+◌, ◌*◌, ◌/◌, ◌%◌, ◌<◌, ◌≤◌, ◌^◌, Bool, true, false, List, [], ◌∷◌, ◌++◌, length, take, Option, Some, None, is_some, refl, sym, ◌∙◌, ap, subst, arith, length-append}
+use Rattle.std.proofs.Common.{◌≡◌, ◌≢◌, ◌⊎◌, inl, inr, ⊎_elim, ℕ, zero, suc, ◌+◌, ◌*◌, ◌<◌, ◌≤◌, ◌^◌, true, false, List, [], ◌∷◌, ◌++◌, length, Option, Some, None, is_some, refl, sym, ◌∙◌, ap, subst, arith, length-append}
 use Rattle.std.specs.Prelude.{flat_map, slice_get, slice_set, option_map}
 use Rattle.std.specs.List.{AllByRecursion}
 use Rattle.std.specs.Int.{w32, cast_unsigned}
@@ -33,7 +33,7 @@ use Rattle.file_names.specs.Names.{place_of, max_shards}
 use Rattle.stripe_layout.specs.declared.Info.{Info}
 use Rattle.stripe_layout.specs.Information.{info_text}
 use Rattle.stripe_layout.specs.Stripes.{shard_length, shards_in_all}
-use Rattle.shard_table.specs.Table.{Row, place_in}
+use Rattle.shard_table.specs.Table.{Row}
 use Rattle.image_meaning.specs.Meaning.{max_volumes}
 use Rattle.image_meaning.specs.Share.{Share, share_of, finals}
 use Rattle.image_meaning.specs.Sound.{Stands}
@@ -50,7 +50,7 @@ use Rattle.plan_steps.specs.Laws.Fitting.{IsSameBut, same_but, was_in, get_set}
 use Rattle.plan_steps.specs.Legal.{IsFound, IsNew, TellsParts, HasFile, FitsPlaces}
 use Rattle.plan_steps.specs.Laws.Legal.{by_bool, some_at, given_new, file_found}
 use Rattle.plan_steps.specs.Laws.Way.{file_before}
-use Rattle.plan_steps.specs.Next.{entries_by, joined_length}
+use Rattle.plan_steps.specs.Next.{entries_by}
 use Rattle.plan_steps.specs.Progressing.{Running, FitsProgress}
 use Rattle.plan_steps.specs.Reading.{StandAtPlaces}
 use Rattle.plan_steps.specs.AsTold.{IsPlannedKind, IsPlannedLength, IsLong, IsWrittenBy, IsFoundLong, StandsAsTold}

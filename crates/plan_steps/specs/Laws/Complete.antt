@@ -1,7 +1,7 @@
 -- A file that counts as whole has all the bytes that are planned.
 -- For `run_step` of the running plans of `plan_run`, to come.
-use Rattle.std.proofs.Common.{◌≡◌, ℕ, ◌+◌, ◌*◌, ◌/◌, ◌<◌, ◌≤◌, Bool, true, false, List, length, take, Option, Some, None, refl, sym, ◌∙◌, ap, subst, arith}
-use Rattle.std.specs.Prelude.{◌==◌, slice_get}
+use Rattle.std.proofs.Common.{◌≡◌, ℕ, ◌*◌, ◌/◌, ◌≤◌, true, false, List, length, take, Some, refl, sym, ◌∙◌, ap, subst, arith}
+use Rattle.std.specs.Prelude.{slice_get}
 use Rattle.std.proofs.lemmas.List.{take_all, length-take}
 use Rattle.std.proofs.lemmas.Bool.{eqb-true, false≢true}
 use Rattle.image_meaning.specs.Laws.Options.{some_is}
@@ -11,8 +11,6 @@ use Rattle.file_names.specs.declared.Kind.{Kind}
 use Rattle.file_names.specs.declared.Kind.TheVariants.{Dat, Idx, Cpd, Cpx, Shard, Ecx, Ecj, Vif}
 use Rattle.needle_record.specs.Records.{records, end_of, IsWholeDat}
 use Rattle.needle_record.specs.Laws.Records.{records-cut}
-use Rattle.site_model.specs.Disk.{firm_file}
-use Rattle.site_model.specs.Disk as disk
 use Rattle.shard_table.specs.Table.{Row}
 use Rattle.image_meaning.specs.Plain.{IsExact}
 use Rattle.image_meaning.specs.Share.{Share}

@@ -1,7 +1,7 @@
 -- What is known of the file of the step that is next, and that each step leaves a progress within its bounds.
 -- For `run_step` of the running plans of `plan_run`, to come.
-use Rattle.std.proofs.Common.{◌≡◌, ◌≢◌, ◌⊎◌, inl, inr, ⊎_elim, ℕ, ◌-◌, ◌/◌, ◌<◌, ◌≤◌, Bool, true, false, List, length, map, Some, None, refl, sym, ◌∙◌, ap, subst, arith}
-use Rattle.std.specs.Prelude.{◌&&◌, ◌==◌, nat_lt, not, if◌then◌else◌, slice_get}
+use Rattle.std.proofs.Common.{◌≡◌, ◌≢◌, ◌⊎◌, inl, inr, ⊎_elim, ℕ, ◌-◌, ◌/◌, Bool, true, false, List, length, Some, refl, sym, ◌∙◌, ap, subst, arith}
+use Rattle.std.specs.Prelude.{◌&&◌, ◌==◌, nat_lt, if◌then◌else◌, slice_get}
 use Rattle.std.specs.Coded.{Coded-set, coded_ℕ, le_prop, Unit-prop}
 use Rattle.std.proofs.lemmas.Bool.{and_parts, and_from, eq-eqb, false≢true}
 use Rattle.image_meaning.specs.Laws.Options.{none_some, some_is}
@@ -37,7 +37,7 @@ use Rattle.plan_steps.specs.Beginning.{first_stage, first_state, first_states}
 use Rattle.plan_steps.specs.Laws.Within.{state_within}
 use Rattle.plan_steps.specs.AsTold.{IsPlannedKind}
 use Rattle.plan_steps.specs.Progressing.{Running, IsOnItsWay}
-use Rattle.plan_steps.specs.Stepping.{AreTextsWhole, IsInBounds, HasTurn, IsWritten, HasPiece, CopiesNoText, IsDue}
+use Rattle.plan_steps.specs.Stepping.{AreTextsWhole, IsInBounds, HasTurn, HasPiece, CopiesNoText, IsDue}
 
 same_number : (n : ℕ) → (n == n) ≡ true
 same_number n = eq-eqb n n refl

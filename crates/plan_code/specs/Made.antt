@@ -27,9 +27,13 @@ pub record IsEncodeOf (servers v at : ℕ) (text : Info) (listed : List Entry) (
 
 -- ---- of coded volumes
 
+-- no shard beyond those of the ratio
+abbrev pub HasNoneBeyond : Geometry → Row → Type 0
+HasNoneBeyond geometry row = (i : ℕ) → shards_in_all geometry ≤ i → place_in row i ≡ None
+
 -- The shards that stand are of the ratio, and they suffice.
 pub record StandEnough (geometry : Geometry) (row : Row) : Type 0 where
-  pub beyond : (i : ℕ) → shards_in_all geometry ≤ i → place_in row i ≡ None
+  pub beyond : HasNoneBeyond geometry row
   pub enough : data_count geometry.ratio ≤ length (places_of geometry row)
 
 -- What is so of every table, of a row of it, and of every list of ids.

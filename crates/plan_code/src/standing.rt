@@ -1,9 +1,8 @@
 //! Whether the shards of a coded volume suffice for a plan.
-ghost use Rattle.std.specs.Prelude.{◌≡◌, ◌≤◌, ℕ, IsTrue, None, length};
-ghost use Rattle.stripe_layout.specs.Stripes.{shards_in_all};
-ghost use Rattle.shard_table.specs.Table.{place_in, row_of};
+ghost use Rattle.std.specs.Prelude.{◌≡◌, ◌↔◌, IsTrue, length};
+ghost use Rattle.shard_table.specs.Table.{row_of};
 ghost use Rattle.plan_steps.specs.Plans.{place_if, places_of};
-ghost use Rattle.plan_code.specs.Made.{StandEnough};
+ghost use Rattle.plan_code.specs.Made.{HasNoneBeyond, StandEnough};
 
 use file_names::MAX_SHARDS;
 use shard_table::ShardTable;
@@ -12,7 +11,7 @@ use stripe_layout::Geometry;
 /// Whether the table's shards of the volume are of the ratio, and at least as many as it has data shards, as a plan of a
 /// coded volume needs.
 pub fn stand_enough(table: &ShardTable, volume: u32, geometry: &Geometry) -> bool
-    ensures { IsTrue result → StandEnough geometry.now (row_of table.now volume) }
+    ensures { IsTrue result ↔ StandEnough geometry.now (row_of table.now volume) }
 {
     count_standing(table, volume, geometry) >= geometry.ratio.data_count()
         && none_beyond(table, volume, geometry)
@@ -41,8 +40,7 @@ fn count_at(place: Option<u32>) -> u8
 
 // Whether no other shard does.
 fn none_beyond(table: &ShardTable, volume: u32, geometry: &Geometry) -> bool
-    ensures { IsTrue result → (shard : ℕ) → shards_in_all geometry.now ≤ shard
-        → place_in (row_of table.now volume) shard ≡ None }
+    ensures { IsTrue result ↔ HasNoneBeyond geometry.now (row_of table.now volume) }
 {
     let _row = table.row(volume);
     for shard in geometry.ratio.shard_count()..MAX_SHARDS {

@@ -9,7 +9,8 @@ use Rattle.site_model.specs.Touches.{Touches, At, touches_on, touches_look, touc
 use Rattle.whole_file.specs.Whole.{AppendsFirm}
 use Rattle.volume_forms.specs.declared.Entry.{Entry}
 use Rattle.volume_forms.specs.Kept.{entry_end}
-use Rattle.volume_vacuum.specs.Copies.{bytes_by, copied, EndWithin, Grows}
+use Rattle.dat_volume.specs.declared.reading.Place.{Place as Range}
+use Rattle.volume_vacuum.specs.Copies.{bytes_by, copied, range_bytes, EndWithin, Grows, Joins}
 
 -- ---- one file that grows
 
@@ -65,26 +66,52 @@ pub range_grows : (p : Place) (bytes piece : List ℕ) (at done count : ℕ) (ol
     → Grows p (take (done + count) (drop at bytes)) old new
 range_grows p bytes piece at done count old mid new so_far done_is is = grows_same (range_more bytes piece at done count is) (grows_on so_far (grows_append p piece mid new done_is))
 
--- ---- records one after the other
+-- ---- ranges that follow each other
 
--- so many are copied, and these are left
-pub record HasCopied (p : Place) (dat : List ℕ) (entries rest : List Entry) (old new : Files) : Type 0 where
-  pub front : List ℕ
-  pub grows : Grows p front old new
-  pub left : front ++ copied dat rest ≡ copied dat entries
+joined_bytes : (dat : List ℕ) (range next : Range) → range.at + range.length ≡ next.at → take (range.length + next.length) (drop range.at dat) ≡ range_bytes dat range ++ range_bytes dat next
+joined_bytes dat range next follows =
+    take-add range.length next.length (drop range.at dat)
+    ∙ ap (λ l. range_bytes dat range ++ take next.length l) (drop-drop range.length range.at dat ∙ ap (λ n. drop n dat) follows)
 
-pub copied_none : (p : Place) (dat : List ℕ) (entries : List Entry) (files : Files) → HasCopied p dat entries entries files files
-copied_none p dat entries files = record { front = []; grows = grows_none p files; left = refl }
-
-pub copied_more : {p : Place} {dat : List ℕ} {entries rest more : List Entry} {old mid new : Files} (e : Entry) → rest ≡ e ∷ more → HasCopied p dat entries rest old mid → Grows p (bytes_by dat e) mid new → HasCopied p dat entries more old new
-copied_more {p} {dat} {entries} {rest} {more} e is so_far did = record {
-  front = so_far.front ++ bytes_by dat e;
-  grows = grows_on so_far.grows did;
-  left = append_assoc so_far.front (bytes_by dat e) (copied dat more) ∙ ap (λ es. so_far.front ++ copied dat es) (sym is) ∙ so_far.left;
+pub joined : {kept : Range} (p : Place) (dat : List ℕ) (range next : Range) (files : Files) → range.at + range.length ≡ next.at → kept ≡ record { at = range.at; length = range.length + next.length } → Joins p dat range next kept files files
+joined {kept} p dat range next files follows is = record {
+  front = [];
+  grows = grows_none p files;
+  both = ap (range_bytes dat) is ∙ joined_bytes dat range next follows;
 }
 
-pub copied_all : {p : Place} {dat : List ℕ} {entries rest : List Entry} {old new : Files} → rest ≡ [] → HasCopied p dat entries rest old new → Grows p (copied dat entries) old new
-copied_all {p} {dat} {entries} {rest} is so_far = grows_same (sym (append-nil so_far.front) ∙ ap (λ es. so_far.front ++ copied dat es) (sym is) ∙ so_far.left) so_far.grows
+pub copied_first : {p : Place} {dat : List ℕ} {range : Range} {old new : Files} (next : Range) → Grows p (range_bytes dat range) old new → Joins p dat range next next old new
+copied_first {p} {dat} {range} next did = record { front = range_bytes dat range; grows = did; both = refl }
+
+-- ---- records one after the other
+
+-- so much is copied, and this range and these records are left
+pub record HasCopied (p : Place) (dat : List ℕ) (entries : List Entry) (range : Range) (rest : List Entry) (old new : Files) : Type 0 where
+  pub front : List ℕ
+  pub grows : Grows p front old new
+  pub left : front ++ (range_bytes dat range ++ copied dat rest) ≡ copied dat entries
+
+pub copied_none : {range : Range} (p : Place) (dat : List ℕ) (entries : List Entry) (files : Files) → range.length ≡ 0 → HasCopied p dat entries range entries files files
+copied_none {range} p dat entries files none = record { front = []; grows = grows_none p files; left = ap (λ n. take n (drop range.at dat) ++ copied dat entries) none }
+
+pub copied_more : {p : Place} {dat : List ℕ} {entries rest more : List Entry} {range next kept : Range} {old mid new : Files} (e : Entry) → rest ≡ e ∷ more → range_bytes dat next ≡ bytes_by dat e
+    → HasCopied p dat entries range rest old mid → Joins p dat range next kept mid new → HasCopied p dat entries kept more old new
+copied_more {p} {dat} {entries} {rest} {more} {range} {next} {kept} e is own so_far did = record {
+  front = so_far.front ++ did.front;
+  grows = grows_on so_far.grows did.grows;
+  left =
+      append_assoc so_far.front did.front (range_bytes dat kept ++ copied dat more)
+      ∙ ap (λ l. so_far.front ++ l)
+      (sym (append_assoc did.front (range_bytes dat kept) (copied dat more)) ∙ ap (λ l. l ++ copied dat more) did.both
+      ∙ append_assoc (range_bytes dat range) (range_bytes dat next) (copied dat more)
+      ∙ ap (λ l. range_bytes dat range ++ (l ++ copied dat more)) own
+      ∙ ap (λ es. range_bytes dat range ++ copied dat es) (sym is))
+      ∙ so_far.left;
+}
+
+pub copied_all : {p : Place} {dat : List ℕ} {entries rest : List Entry} {range : Range} {old mid new : Files} → rest ≡ [] → HasCopied p dat entries range rest old mid → Grows p (range_bytes dat range) mid new → Grows p (copied dat entries) old new
+copied_all {p} {dat} {entries} {rest} {range} is so_far did =
+    grows_same (ap (λ l. so_far.front ++ l) (sym (append-nil (range_bytes dat range)) ∙ ap (λ es. range_bytes dat range ++ copied dat es) (sym is)) ∙ so_far.left) (grows_on so_far.grows did)
 
 -- the next record ends within the data file, and so do those behind it
 pub next_within : {n : ℕ} {rest more : List Entry} (e : Entry) → rest ≡ e ∷ more → EndWithin n rest → (entry_end e ≤ n) × EndWithin n more

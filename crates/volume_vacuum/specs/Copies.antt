@@ -9,6 +9,7 @@ use Rattle.volume_forms.specs.declared.Entry.{Entry}
 use Rattle.volume_forms.specs.Forms.{entry_bytes}
 use Rattle.volume_forms.specs.Kept.{fields_size, entry_end}
 use Rattle.needle_record.specs.Records.{Index}
+use Rattle.dat_volume.specs.declared.reading.Place.{Place as Range}
 use Rattle.dat_volume.specs.declared.fault.GetFault.{GetFault}
 use Rattle.dat_volume.specs.declared.fault.GetFault.TheVariants as get_fault
 use Rattle.dat_volume.specs.Needles.{Damage, damage_of, header_damage, first_damage}
@@ -52,6 +53,10 @@ bytes_by dat e = take (length_by e) (drop (8 * e.offset) dat)
 abbrev pub copied : List ℕ → List Entry → List ℕ
 copied dat es = flat_map (bytes_by dat) es
 
+-- the bytes of a range
+abbrev pub range_bytes : List ℕ → Range → List ℕ
+range_bytes dat range = take range.length (drop range.at dat)
+
 -- each record ends within so many bytes
 abbrev pub EndWithin : ℕ → List Entry → Type 0
 EndWithin n [] = Unit {0}
@@ -60,6 +65,12 @@ EndWithin n (e ∷ es) = (entry_end e ≤ n) × EndWithin n es
 -- the bytes are put behind those of the file, which stands
 pub record Grows (p : Place) (bytes : List ℕ) (old new : Files) : Type 0 where
   pub behind : (front : List ℕ) → standing (old p) ≡ Some front → standing (new p) ≡ Some (front ++ bytes)
+
+-- A front of the two ranges is put behind the file, and the range that is kept is the rest of them.
+pub record Joins (p : Place) (dat : List ℕ) (range next kept : Range) (old new : Files) : Type 0 where
+  pub front : List ℕ
+  pub grows : Grows p front old new
+  pub both : front ++ range_bytes dat kept ≡ range_bytes dat range ++ range_bytes dat next
 
 -- ---- what is damaged
 

@@ -2,7 +2,7 @@
 ghost use Rattle.std.specs.Prelude.{◌≡◌, ◌≢◌, ◌+◌, ◌^◌, ◌<◌, ◌≤◌, min, IsTrue, IfOk, IsErr, OnOk, length, take, drop, string_bytes};
 ghost use Rattle.site_model.specs.Counts.{CallsAt, widest_piece};
 ghost use Rattle.site_model.specs.Touches.{Touches, At};
-ghost use Rattle.volume_vacuum.specs.Copies.{copied, EndWithin, Grows};
+ghost use Rattle.volume_vacuum.specs.Copies.{copied, range_bytes, EndWithin, Grows, Joins};
 ghost use Rattle.volume_vacuum.specs.Home.{own_dat, cpd_temp_named};
 
 use crate::home::Home;
@@ -10,7 +10,8 @@ use dat_volume::{Place, place_of};
 use site_model::{Failed, Site};
 use volume_forms::Entry;
 
-/// Appends the records of the entries, in their order and byte for byte.
+/// Appends the records of the entries, in their order and byte for byte. Those that follow each other are copied as one
+/// range.
 pub(crate) fn copy_records<T: Site>(
     site: &mut T,
     home: &Home,
@@ -30,12 +31,45 @@ pub(crate) fn copy_records<T: Site>(
         (T.disk site.new).files) }
     ensures runs { CallsAt T.counts T.servers home.now.server site.old site.new (IsErr result) }
 {
+    let mut range = Place { at: 0, length: 0 };
     let mut rest = entries;
     while let Some((entry, more)) = rest.split_first() {
-        copy_range(site, home, place_of(*entry), buffer)?;
+        range = join_or_copy(site, home, range, place_of(*entry), buffer)?;
         rest = more;
     }
-    Ok(())
+    copy_range(site, home, range, buffer)
+}
+
+// The range with the next one behind it, where that follows. Else it is copied, and the next one is the answer.
+fn join_or_copy<T: Site>(
+    site: &mut T,
+    home: &Home,
+    range: Place,
+    next: Place,
+    buffer: &mut [u8],
+) -> Result<Place, Failed>
+    requires server { home.now.server < T.servers site.old }
+    requires within { IsTrue T.tells
+        → range.at + range.length ≤ length (own_dat (T.disk site.old).files home.now) }
+    requires fits { (range.at + range.length < 2 ^ 63) × (next.at + next.length < 2 ^ 63) }
+    requires apart { string_bytes home.now.dat ≢ string_bytes home.now.cpd_temp }
+    requires room { (0 < length buffer.old) × (length buffer.old ≤ widest_piece) }
+    ensures effect { IsTrue T.tells → Touches (At (cpd_temp_named home.now)) (T.disk site.old)
+        (T.disk site.new) }
+    ensures kept { IfOk result (λ kept. (kept.at + kept.length ≡ next.at + next.length)
+        × (IsTrue T.tells → Joins (cpd_temp_named home.now) (own_dat (T.disk site.old).files home.now)
+        range next kept (T.disk site.old).files (T.disk site.new).files)) }
+    ensures long { length buffer.new ≡ length buffer.old }
+    ensures runs { CallsAt T.counts T.servers home.now.server site.old site.new (IsErr result) }
+{
+    if range.at + range.length == next.at {
+        return Ok(Place {
+            at: range.at,
+            length: range.length + next.length,
+        });
+    }
+    copy_range(site, home, range, buffer)?;
+    Ok(next)
 }
 
 // Appends what stands at the place.
@@ -55,8 +89,7 @@ fn copy_range<T: Site>(
     ensures effect { IsTrue T.tells → Touches (At (cpd_temp_named home.now)) (T.disk site.old)
         (T.disk site.new) }
     ensures done { OnOk result (IsTrue T.tells → Grows (cpd_temp_named home.now)
-        (take place.length (drop place.at (own_dat (T.disk site.old).files home.now)))
-        (T.disk site.old).files (T.disk site.new).files) }
+        (range_bytes (own_dat (T.disk site.old).files home.now) place) (T.disk site.old).files (T.disk site.new).files) }
     ensures long { length buffer.new ≡ length buffer.old }
     ensures runs { CallsAt T.counts T.servers home.now.server site.old site.new (IsErr result) }
 {

@@ -1,4 +1,4 @@
-//! A vacuum at the one server of a site in memory, of a volume of three records.
+//! A vacuum at the one server of a site in memory, of volumes of three records.
 ghost use Rattle.std.specs.Prelude.{◌≡◌, ◌≤◌, IsTrue, IfOk, length};
 ghost use Rattle.site_mem.specs.Site.{disk_at};
 ghost use Rattle.dat_volume.specs.Places.{dat_in};
@@ -53,6 +53,9 @@ const NEW_SUPER: [u8; 8] = [3, 0, 0, 0, 0, 1, 0, 0];
 
 const NEW_ENTRY: [u8; 16] = [0, 0, 0, 0, 0, 0, 0, 2, 0, 0, 0, 1, 0, 0, 0, 0x0e];
 
+// The entry of the first needle behind that.
+const NEXT_ENTRY: [u8; 16] = [0, 0, 0, 0, 0, 0, 0, 1, 0, 0, 0, 7, 0, 0, 0, 0x0e];
+
 #[derive(Drop)]
 struct Server {
     site: MemSite,
@@ -62,29 +65,32 @@ struct Server {
 }
 
 impl Server {
-    // With the three records, of which the last begins with this cookie and id.
-    fn new(alloc: Global, head: &[u8]) -> Result<Server, Fail> {
-        let mut dat = Vec::new(alloc);
-        dat.extend_from_slice(&SUPER)?;
-        dat.extend_from_slice(&FIRST)?;
-        dat.extend_from_slice(&DELETION)?;
-        dat.extend_from_slice(head)?;
-        dat.extend_from_slice(&SECOND[HEAD..])?;
+    // With these parts of a data file, an index, and these live entries.
+    fn new(alloc: Global, parts: &[&[u8]], live: &[Entry]) -> Result<Server, Fail> {
         let mut site = MemSite::new(alloc, 1)?;
+        let dat = joined(alloc, parts)?;
         site.add_file(0, DAT, &dat)?;
         site.add_file(0, IDX, &ENTRIES)?;
         let mut index = NeedleMap::new(alloc);
-        index.put(Entry {
-            id: 2,
-            offset: 11,
-            size: 14,
-        })?;
+        for entry in live {
+            index.put(*entry)?;
+        }
         let volume = DatVolume::adopt(0, VOLUME, index, dat.len() as u64);
         Ok(Server { site, volume })
     }
 
-    fn sound(alloc: Global) -> Result<Server, Fail> {
-        Server::new(alloc, &SECOND[..HEAD])
+    // With a deleted needle, and one whose record begins with this cookie and id.
+    fn with_deletion(alloc: Global, head: &[u8]) -> Result<Server, Fail> {
+        let live = Entry {
+            id: 2,
+            offset: 11,
+            size: 14,
+        };
+        Server::new(
+            alloc,
+            &[&SUPER, &FIRST, &DELETION, head, &SECOND[HEAD..]],
+            &[live],
+        )
     }
 
     fn vacuum(&mut self, rt: &impl Abort, alloc: Global) -> Result<Result<(), GetFault>, Fail> {
@@ -100,10 +106,7 @@ impl Server {
 
     // Sees what both files hold.
     fn see(&self, rt: &impl Abort, alloc: Global, dat: &[&[u8]], idx: &[u8]) -> Result<(), Fail> {
-        let mut bytes = Vec::new(alloc);
-        for part in dat {
-            bytes.extend_from_slice(part)?;
-        }
+        let bytes = joined(alloc, dat)?;
         assert_eq!(rt; self.site.file(0, DAT), Some(bytes.as_slice()));
         assert_eq!(rt; self.site.file(0, IDX), Some(idx));
         Ok(())
@@ -114,6 +117,14 @@ impl Server {
         let dat: [&[u8]; 5] = [&SUPER, &FIRST, &DELETION, head, &SECOND[HEAD..]];
         self.see(rt, alloc, &dat, &ENTRIES)
     }
+}
+
+fn joined(alloc: Global, parts: &[&[u8]]) -> Result<Vec<u8>, AllocError> {
+    let mut bytes = Vec::new(alloc);
+    for part in parts {
+        bytes.extend_from_slice(part)?;
+    }
+    Ok(bytes)
 }
 
 // Whether the volume's data file has room for a super block.
@@ -131,7 +142,7 @@ fn has_front(alloc: Global, site: &MemSite, volume: u32) -> Result<bool, AllocEr
 #[test]
 fn a_deleted_needle_gives_its_space_back(rt: HostRuntime) -> Result<(), Fail> {
     let alloc = rt.alloc();
-    let mut server = Server::sound(alloc)?;
+    let mut server = Server::with_deletion(alloc, &SECOND[..HEAD])?;
     let done = server.vacuum(&rt, alloc)?;
     assert_eq!(rt; done, Ok(()));
     server.see(&rt, alloc, &[&NEW_SUPER, &SECOND], &NEW_ENTRY)?;
@@ -145,13 +156,31 @@ fn a_deleted_needle_gives_its_space_back(rt: HostRuntime) -> Result<(), Fail> {
 }
 
 #[test]
+fn records_keep_the_order_of_their_places(rt: HostRuntime) -> Result<(), Fail> {
+    let alloc = rt.alloc();
+    let live = [(1, 13), (2, 7)].map(|(id, offset)| Entry {
+        id,
+        offset,
+        size: 14,
+    });
+    let mut server = Server::new(alloc, &[&SUPER, &FIRST, &SECOND, &FIRST], &live)?;
+    let done = server.vacuum(&rt, alloc)?;
+    assert_eq!(rt; done, Ok(()));
+    let idx = joined(alloc, &[&NEW_ENTRY, &NEXT_ENTRY])?;
+    server.see(&rt, alloc, &[&NEW_SUPER, &SECOND, &FIRST], &idx)?;
+    // The two records stand side by side, so they are copied by one read and one append.
+    assert_eq!(rt; server.site.calls(), 16);
+    Ok(())
+}
+
+#[test]
 fn each_call_that_fails_is_told(rt: HostRuntime) -> Result<(), Fail> {
     let alloc = rt.alloc();
-    let mut run = Server::sound(alloc)?;
+    let mut run = Server::with_deletion(alloc, &SECOND[..HEAD])?;
     let done = run.vacuum(&rt, alloc)?;
     assert_eq!(rt; done, Ok(()));
     for call in 1..=run.site.calls() {
-        let mut server = Server::sound(alloc)?;
+        let mut server = Server::with_deletion(alloc, &SECOND[..HEAD])?;
         server.site.fail_call(call)?;
         let failed = server.vacuum(&rt, alloc)?;
         assert_eq!(rt; failed, Err(GetFault::Fault(DeviceFault { server: 0 })));
@@ -165,7 +194,7 @@ fn each_call_that_fails_is_told(rt: HostRuntime) -> Result<(), Fail> {
 fn a_damaged_header_is_told_before_the_first_write(rt: HostRuntime) -> Result<(), Fail> {
     let alloc = rt.alloc();
     let head = [0, 0, 0, 0x2a, 0, 0, 0, 0, 0, 0, 0, 3];
-    let mut server = Server::new(alloc, &head)?;
+    let mut server = Server::with_deletion(alloc, &head)?;
     let wanted = GetFault::Damaged {
         what: What::Id,
         a: 2,

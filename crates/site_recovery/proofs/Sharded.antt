@@ -18,7 +18,7 @@ use Rattle.image_meaning.specs.Laws.Survivable.{no_holder, is_lost}
 use Rattle.coded_volume.specs.declared.checking.holders.Holders.{Holders}
 use Rattle.coded_volume.specs.declared.checking.Checked.{Checked}
 use Rattle.coded_volume.specs.Checking.{AreHolders, Breaks, IsChecked, TellsFirst, TellsRule}
-use Rattle.site_recovery.specs.Runs.{IsSiteFault}
+use Rattle.coded_volume.specs.Checking.{IsSiteFault}
 use Rattle.site_recovery.specs.CodedGone.{HasShardHomes}
 use Rattle.site_recovery.specs.CodedSettling.{IsTestedCoded, FailsShards}
 

@@ -2,7 +2,7 @@
 ghost use Rattle.std.specs.Prelude.{◌≤◌, ◌<◌, length, false, None, ◌≡◌, IsTrue, IfErr, IsErrOf, OnOk};
 ghost use Rattle.image_meaning.specs.Files.{contents, files_of};
 ghost use Rattle.site_model.specs.Counts.{Calls};
-ghost use Rattle.site_recovery.specs.Runs.{IsSiteFault};
+ghost use Rattle.coded_volume.specs.Checking.{IsSiteFault};
 ghost use Rattle.site_recovery.specs.Changes.{TakesAway};
 ghost use Rattle.file_names.specs.Names.{IsKind};
 ghost use Rattle.site_recovery.specs.CodedGone.{IsUnkept, IsGoneBeside, ClearsUnless, IsSpare, HasShardHomes, AreCopiesGone};

@@ -3,7 +3,7 @@ ghost use Rattle.std.specs.Prelude.{IsTrue, IfErr, IsErrOf, OnOk};
 ghost use Rattle.site_model.specs.Counts.{Calls};
 ghost use Rattle.wire_num.specs.Laws.Pair.{AreIds};
 ghost use Rattle.coded_volume.specs.Checking.{AreCopies, AreStanding, files_on};
-ghost use Rattle.site_recovery.specs.Runs.{IsSiteFault};
+ghost use Rattle.coded_volume.specs.Checking.{IsSiteFault};
 ghost use Rattle.site_recovery.specs.Changes.{Settles};
 ghost use Rattle.site_recovery.specs.CodedSettling.{IsVolumeFile, IsTestedCoded, IsSettledCoded};
 

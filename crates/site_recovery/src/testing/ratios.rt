@@ -4,7 +4,7 @@ ghost use Rattle.site_model.specs.Counts.{Calls};
 ghost use Rattle.image_meaning.specs.Coded.{ratio_at, told_ratio};
 ghost use Rattle.image_meaning.specs.Sound.{HasOneRatio};
 ghost use Rattle.coded_volume.specs.Checking.{AreBelow, AreHolders, Breaks, files_on};
-ghost use Rattle.site_recovery.specs.Runs.{IsSiteFault};
+ghost use Rattle.coded_volume.specs.Checking.{IsSiteFault};
 
 use coded_volume::{Holders, info_at};
 use site_model::{OpenFault, Site};

@@ -4,7 +4,7 @@ ghost use Rattle.site_model.specs.Counts.{Calls};
 ghost use Rattle.image_meaning.specs.Meaning.{has_long_dat};
 ghost use Rattle.image_meaning.specs.Plain.{index_home};
 ghost use Rattle.coded_volume.specs.Checking.{files_on};
-ghost use Rattle.site_recovery.specs.Runs.{IsSiteFault};
+ghost use Rattle.coded_volume.specs.Checking.{IsSiteFault};
 ghost use Rattle.site_recovery.specs.Listing.{AreFilesOf, AreInOrder, IsLongDat};
 ghost use Rattle.site_recovery.specs.CodedSettling.{FailsShards, HasCopiesAt, HasUnindexed, without_shards};
 

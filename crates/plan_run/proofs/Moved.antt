@@ -1,5 +1,5 @@
 -- Steps that move one file of a plan.
-use Rattle.std.proofs.Common.{◌≡◌, ◌≢◌, inl, inr, ⊎_elim, ℕ, zero, suc, ◌<◌, ◌≤◌, Bool, true, false, List, [], ◌∷◌, length, map, Some, refl, sym, ◌∙◌, ap, subst, arith}
+use Rattle.std.proofs.Common.{◌≡◌, ◌≢◌, ◌⊎◌, inl, inr, ⊎_elim, ℕ, zero, suc, ◌<◌, ◌≤◌, Bool, true, false, List, [], ◌∷◌, length, map, Some, refl, sym, ◌∙◌, ap, subst, arith}
 use Rattle.std.specs.Prelude.{if◌then◌else◌, slice_get, slice_set, Result, Ok, Err, MatchResult, IsErr, IfErr, IsErrOf}
 use Rattle.std.proofs.lemmas.Bool.{cases_eq, false≢true}
 use Rattle.std.proofs.lemmas.List.Elements.{Contains-push}
@@ -10,12 +10,12 @@ use Rattle.image_meaning.specs.Meaning.{max_volumes}
 use Rattle.image_meaning.specs.Share.{Share, share_of, IsOfVolume, ChangesFew}
 use Rattle.site_model.specs.Disk.{Place, Disk}
 use Rattle.site_model.specs.Counts.{Counts, Rose, HasWriteCause, widest_piece}
-use Rattle.site_model.specs.Laws.Count.{takes_within}
+use Rattle.site_model.specs.Laws.Count.{later_write, takes_within, takes_write}
 use Rattle.site_model.specs.Touches.{Touches, At, touches_more}
 use Rattle.site_model.specs.declared.error.DeviceFault.{DeviceFault}
 use Rattle.world_model.specs.World.{Volume}
 use Rattle.file_names.specs.declared.Kind.{Kind}
-use Rattle.file_names.specs.declared.Kind.TheVariants.{Idx, Vif}
+use Rattle.file_names.specs.declared.Kind.TheVariants.{Dat, Idx, Vif}
 use Rattle.world_model.specs.declared.types.Command.TheVariants.{Decode}
 use Rattle.file_names.specs.Names.{place_of}
 use Rattle.stripe_layout.specs.Information.{info_text}
@@ -37,14 +37,16 @@ use Rattle.plan_steps.specs.Walk.{is_file}
 use Rattle.plan_steps.specs.Laws.Walk.{file_is, is_this}
 use Rattle.plan_steps.specs.Laws.Way.{way_still, way_on, next_still}
 use Rattle.plan_steps.specs.Next.{is_whole}
-use Rattle.plan_steps.specs.After.{at_stage, put_whole, after, PlaceAfter}
+use Rattle.plan_steps.specs.Legality.{goes_on_behind}
+use Rattle.plan_steps.specs.After.{piece_length, grown_by, at_stage, put_whole, appended, after, PlaceAfter}
 use Rattle.plan_steps.specs.Laws.Complete.{whole_long, complete_length}
 use Rattle.plan_steps.specs.AsTold.{IsPlannedLength}
 use Rattle.plan_steps.specs.Progressing.{Running, running, IsOnItsWay, IsNextPlace, FitsProgress}
 use Rattle.plan_steps.specs.Stepping.{TriesStep}
-use Rattle.plan_run.specs.Faults.{IsBlamed}
+use Rattle.plan_run.specs.Faults.{IsBlamed, WritesAt}
 use Rattle.plan_run.specs.Finishing.{Tells, Does, IsOfFile, TouchesFile, TouchesTemp, Keeps, Synced, SyncedTold, Registers, Registered, RegisteredTold, Clears, Cleared, ClearedTold}
-use Rattle.plan_run.specs.Writing.{Puts, Put, PutTold}
+use Rattle.plan_run.specs.Writing.{Grown, GrownTold, Puts, Put, PutTold}
+use Rattle.plan_run.specs.Pieces.{IsPiece}
 use Rattle.plan_run.specs.Stepping.{Steps, TakesFew, FailsWriting}
 
 -- ---- the list
@@ -275,6 +277,84 @@ module _ (tells : Type 0) (plan : Plan) (below : plan.volume < max_volumes) (p q
       same = tt;
     }
 
+  -- ---- a piece of one file
+
+  module _ (by : Step) (taken : ℕ) (piece : List ℕ) (begun : (s.stage ≡ Absent) ⊎ (s.stage ≡ Writing)) (count : piece_length plan taken s.length by ≡ length piece) (goes : goes_on_behind plan p.place by s ≡ true)
+      (only : (k : ℕ) (u : FileState) → slice_get p.files.items k ≡ Some u → goes_on_behind plan p.place by u ≡ true → k ≡ j)
+      (right : (w : Volume) (f : Forms) (row : Row) (start : Share) → FitsProgress w f r row start (share_of old.files plan.volume) → IsPiece f.parts s piece)
+      (no_index : s.kind ≢ Idx) (how : (u : FileState) → after plan p.place taken by u ≡ appended plan p.place taken by u) (still : (n : ℕ) → n ≡ p.place → PlaceAfter plan p.place n by) where
+    abbrev GrowDoes : Answer → Type 0
+    GrowDoes result = Does (TouchesTemp r j old new) (Keeps r j old new) (Grown r j piece old new m) (GrownTold r j old new m) result
+
+    grow_tried : (result : Answer) → GrowDoes result → TriesStep r old new
+    grow_tried result did = tries (as_file (did.touches s at)) (λ w f row start fits. did.kept w f row start s fits at)
+
+    unfinished : IsUnfinished s.stage
+    unfinished = ⊎_elim (λ e. subst IsUnfinished (sym e) tt) (λ e. subst IsUnfinished (sym e) tt) begun
+
+    pub grow_steps : (result : Answer) → (tells → GrowDoes result) → MatchResult result (λ _. Tells j (grown_by (length piece)) p q) (λ _. q ≡ p) → Steps tells r by m result old new
+    grow_steps (Err fault) did state = record { tried = λ t. grow_tried (Err fault) (did t); taken = tt; same = ap (running plan) state }
+    grow_steps (Ok value) did state = record {
+      tried = λ t. grow_tried (Ok value) (did t);
+      taken = record {
+        same_plan = refl;
+        after = record {
+          taken = taken;
+          files = state.files s at ∙ ap (λ n. slice_set p.files.items j (grown_by n s)) (sym count)
+              ∙ set_map (goes_on_behind plan p.place by) (λ u. grown_by (piece_length plan taken u.length by) u) p.files.items j s at goes only ∙ λ i. map (λ u. sym (how u) i) p.files.items;
+          moves = still q.place state.place;
+        };
+        way = λ row onward was places.
+            let on = way_still r row was j s (grown_by (length piece) s) at refl refl unfinished tt in
+            subst (λ (x : Running). IsOnItsWay x onward) (sym (same_run state))
+            (record { listed = on.listed; apart = on.apart; reached = on.reached; places = subst (λ (x : Running). FitsPlaces plan x.states onward) (same_run state) places });
+        told = λ t was. (did t).told s at below are begun was;
+        follows = λ t w f row onward start fits places.
+            let is = right w f row start fits in
+            other_row w f m row onward start (share_of new.files plan.volume)
+            ((did t).fitting w f row start s fits at begun is.whole is.planned_is is.follows is.within q.place
+            (subst (IsNextPlace f.parts) (sym (same_run state)) (next_still r row fits.way j s (grown_by (length piece) s) at refl refl f.parts (λ idx. absurd (no_index idx)) fits.next))) places;
+      };
+      same = tt;
+    }
+
+    -- the same of these bytes by another name
+    pub grow_steps_of : (bytes : List ℕ) → bytes ≡ piece → (result : Answer) → (tells → Does (TouchesTemp r j old new) (Keeps r j old new) (Grown r j bytes old new m) (GrownTold r j old new m) result)
+        → MatchResult result (λ _. Tells j (grown_by (length bytes)) p q) (λ _. q ≡ p) → Steps tells r by m result old new
+    grow_steps_of bytes e result did state = grow_steps result
+        (λ t. subst (λ (x : List ℕ). Does (TouchesTemp r j old new) (Keeps r j old new) (Grown r j x old new m) (GrownTold r j old new m) result) e (did t))
+        (subst (λ (x : List ℕ). MatchResult result (λ _. Tells j (grown_by (length x)) p q) (λ _. q ≡ p)) e state)
+
+-- the files of a plain volume go by a step of their own
+module _ {tells : Type 0} {r m : Running} {server : ℕ} {old new : Disk} where
+  pub drops_index : (result : Answer) → Steps tells r (step.Unregister server Idx) m result old new → Steps tells r (step.DropIndex server) m result old new
+  drops_index (Err fault) did = record { tried = did.tried; taken = tt; same = did.same }
+  drops_index (Ok value) did = record {
+    tried = did.tried;
+    taken = record {
+      same_plan = did.taken.same_plan;
+      after = record { taken = did.taken.after.taken; files = did.taken.after.files; moves = did.taken.after.moves };
+      way = did.taken.way;
+      told = did.taken.told;
+      follows = did.taken.follows;
+    };
+    same = tt;
+  }
+
+  pub drops_data : (result : Answer) → Steps tells r (step.Unregister server Dat) m result old new → Steps tells r (step.DropData server) m result old new
+  drops_data (Err fault) did = record { tried = did.tried; taken = tt; same = did.same }
+  drops_data (Ok value) did = record {
+    tried = did.tried;
+    taken = record {
+      same_plan = did.taken.same_plan;
+      after = record { taken = did.taken.after.taken; files = did.taken.after.files; moves = did.taken.after.moves };
+      way = did.taken.way;
+      told = did.taken.told;
+      follows = did.taken.follows;
+    };
+    same = tt;
+  }
+
 -- ---- calls
 
 module _ {A S : Type 0} {counts : S → Counts} {count : S → ℕ} {old new : S} where
@@ -304,3 +384,22 @@ pub wrote : {A S : Type 0} (counts : S → Counts) (old new : S) {server : ℕ} 
     → FailsWriting counts result old new
 wrote counts old new (Ok value) cause blame = tt
 wrote counts old new (Err fault) cause blame = subst (λ n. Rose ((counts old).write_faults n) ((counts new).write_faults n)) (sym blame) (cause.failed refl)
+
+-- one call that writes
+pub writes_few : {A S : Type 0} {counts : S → Counts} {count : S → ℕ} {old new : S} {server width : ℕ} (result : Result A DeviceFault) → WritesAt counts count server width result old new → width ≤ widest_piece
+    → TakesFew counts count result old new
+writes_few result did narrow = blamed_few result (record {
+  takes = takes_write did.counted;
+  runs = record {
+    later = later_write did.counted;
+    others = did.counted.others;
+    failed = did.counted.failed;
+    says = did.counted.says;
+    servers = did.servers;
+    no_wider = omega (arith, did.counted.widest, narrow);
+  };
+  blame = did.blame;
+}) (omega arith) narrow
+
+pub writes_wrote : {A S : Type 0} (counts : S → Counts) (count : S → ℕ) (old new : S) {server width : ℕ} (result : Result A DeviceFault) → WritesAt counts count server width result old new → FailsWriting counts result old new
+writes_wrote counts count old new result did = wrote counts old new result (record { later = did.counted.writes_later; others = did.counted.writes_others; failed = did.counted.writes_failed }) did.blame

@@ -5,3 +5,4 @@ pub mod Names
 pub mod Running
 pub mod Stepping
 pub mod Places
+pub mod Pieces

@@ -90,6 +90,40 @@ pub(crate) fn clear_step<T: Site>(
     clear_file(site, plan, progress, at, names.temp(at), names.last(at))
 }
 
+/// Removes the index of the plain volume.
+pub(crate) fn drop_index_step<T: Site>(
+    site: &mut T,
+    plan: &Plan,
+    progress: &mut Progress,
+    names: &FileNames,
+    server: u32,
+) -> Result<(), DeviceFault>
+    requires work { IsAtWork (running plan.now progress.old) (T.servers site.old) names.now }
+    requires due { IsDue (running plan.now progress.old) (step.DropIndex server) }
+    ensures steps { Steps (IsTrue T.tells) (running plan.now progress.old) (step.DropIndex server)
+        (running plan.now progress.new) result (T.disk site.old) (T.disk site.new) }
+    ensures few { TakesFew T.counts T.servers result site.old site.new }
+{
+    clear_step(site, plan, progress, names, server, Kind::Idx)
+}
+
+/// Removes the data file of the plain volume.
+pub(crate) fn drop_data_step<T: Site>(
+    site: &mut T,
+    plan: &Plan,
+    progress: &mut Progress,
+    names: &FileNames,
+    server: u32,
+) -> Result<(), DeviceFault>
+    requires work { IsAtWork (running plan.now progress.old) (T.servers site.old) names.now }
+    requires due { IsDue (running plan.now progress.old) (step.DropData server) }
+    ensures steps { Steps (IsTrue T.tells) (running plan.now progress.old) (step.DropData server)
+        (running plan.now progress.new) result (T.disk site.old) (T.disk site.new) }
+    ensures few { TakesFew T.counts T.servers result site.old site.new }
+{
+    clear_step(site, plan, progress, names, server, Kind::Dat)
+}
+
 /// Writes the text that describes the coded volume.
 pub(crate) fn info_step<T: Site>(
     site: &mut T,

@@ -1,0 +1,8 @@
+use Rattle.plan_run.proofs.Moved.{drops_data}
+use Rattle.plan_run.proofs.steps.drop_data_step.Goals as goal
+
+pub clear_step-requires-clause-due : goal.clear_step-requires-clause-due
+clear_step-requires-clause-due g c = c.requires.due
+
+pub returns-clause-steps : goal.returns-clause-steps
+returns-clause-steps g c = drops_data c.clear_step.result c.clear_step.ensures.steps

@@ -1,0 +1,34 @@
+//! Pieces of lists, which are filled into a room.
+ghost use Rattle.std.specs.Prelude.{◌≡◌, ◌≤◌, ◌+◌, ◌*◌, ◌++◌, length, take};
+ghost use Rattle.wire_num.specs.Pairs.{journal_bytes, pair_bytes};
+
+use wire_num::put_u64;
+
+/// The most entries, pairs or deletions of one piece.
+pub(crate) const LIST_PIECE: usize = 2048;
+
+/// The length of a pair of a journal, which has an id twice.
+pub(crate) const PAIR_LENGTH: usize = 16;
+
+const HALF_LENGTH: usize = 8;
+
+// Puts an id twice.
+fn put_pair(room: &mut [u8], at: usize, id: u64)
+    requires { at + 16 ≤ length room.old }
+    ensures pair { take (at + 16) room.new ≡ take at room.old ++ pair_bytes id }
+    ensures size { length room.new ≡ length room.old }
+{
+    put_u64(room, at, id);
+    put_u64(room, at + HALF_LENGTH, id);
+}
+
+/// Fills the front of the room with the pairs of these ids.
+pub(crate) fn fill_pairs(ids: &[u64], room: &mut [u8])
+    requires { 16 * length ids.now ≤ length room.old }
+    ensures pairs { take (16 * length ids.now) room.new ≡ journal_bytes ids.now }
+    ensures size { length room.new ≡ length room.old }
+{
+    for (number, id) in ids.iter().enumerate() {
+        put_pair(room, PAIR_LENGTH * number, *id);
+    }
+}

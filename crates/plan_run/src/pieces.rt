@@ -1,8 +1,11 @@
 //! Pieces of lists, which are filled into a room.
 ghost use Rattle.std.specs.Prelude.{◌≡◌, ◌≤◌, ◌+◌, ◌*◌, ◌++◌, length, take};
 ghost use Rattle.wire_num.specs.Pairs.{journal_bytes, pair_bytes};
+ghost use Rattle.plan_steps.specs.Planned.{deletions};
 
+use needle_record::put_deletion;
 use wire_num::put_u64;
+use world_model::limits::DELETION_LENGTH;
 
 /// The most entries, pairs or deletions of one piece.
 pub(crate) const LIST_PIECE: usize = 2048;
@@ -11,6 +14,9 @@ pub(crate) const LIST_PIECE: usize = 2048;
 pub(crate) const PAIR_LENGTH: usize = 16;
 
 const HALF_LENGTH: usize = 8;
+
+/// The length of a deletion.
+pub(crate) const DELETION: usize = DELETION_LENGTH as usize;
 
 // Puts an id twice.
 fn put_pair(room: &mut [u8], at: usize, id: u64)
@@ -30,5 +36,16 @@ pub(crate) fn fill_pairs(ids: &[u64], room: &mut [u8])
 {
     for (number, id) in ids.iter().enumerate() {
         put_pair(room, PAIR_LENGTH * number, *id);
+    }
+}
+
+/// Fills the front of the room with the deletions of these ids.
+pub(crate) fn fill_deletions(ids: &[u64], room: &mut [u8])
+    requires { 32 * length ids.now ≤ length room.old }
+    ensures deletions { take (32 * length ids.now) room.new ≡ deletions ids.now }
+    ensures size { length room.new ≡ length room.old }
+{
+    for (number, id) in ids.iter().enumerate() {
+        put_deletion(room, DELETION * number, *id);
     }
 }

@@ -41,3 +41,4 @@ pub mod Within
 pub mod Due
 pub mod Complete
 pub mod Places
+pub mod DataFile

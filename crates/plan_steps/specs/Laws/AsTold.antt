@@ -67,12 +67,12 @@ entries_long : (es : List Entry) → length (flat_map entry_bytes es) ≡ 16 * l
 entries_long [] = refl
 entries_long (e ∷ es) = length-append (entry_bytes e) (flat_map entry_bytes es) ∙ omega (arith, entry_long e, entries_long es)
 
-deletion_long : (id : ℕ) → id < 2 ^ 64 → length (canonical (record { cookie = 0; id = id; content = None; appended = 0 })) ≡ deletion_length
+pub deletion_long : (id : ℕ) → id < 2 ^ 64 → length (canonical (record { cookie = 0; id = id; content = None; appended = 0 })) ≡ deletion_length
 deletion_long id h =
     let deletion : Record = record { cookie = 0; id = id; content = None; appended = 0 } in
     (canonical-reads deletion (record { cookie = omega arith; id = h; appended = omega arith }) tt).long
 
-deletions_long : (ids : List ℕ) → AllByRecursion (λ id. id < 2 ^ 64) ids → length (deletions ids) ≡ deletion_length * length ids
+pub deletions_long : (ids : List ℕ) → AllByRecursion (λ id. id < 2 ^ 64) ids → length (deletions ids) ≡ deletion_length * length ids
 deletions_long [] h = refl
 deletions_long (id ∷ ids) h =
     length-append (canonical (record { cookie = 0; id = id; content = None; appended = 0 })) (deletions ids) ∙ omega (arith, deletion_long id h.0, deletions_long ids h.1)

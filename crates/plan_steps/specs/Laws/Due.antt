@@ -1,6 +1,6 @@
 -- What is known of the file of the step that is next, and that each step leaves a progress within its bounds.
 -- For `run_step` of the running plans of `plan_run`, to come.
-use Rattle.std.proofs.Common.{◌≡◌, ◌≢◌, ◌⊎◌, inl, inr, ⊎_elim, ℕ, ◌-◌, ◌/◌, Bool, true, false, List, length, Some, refl, sym, ◌∙◌, ap, subst, arith}
+use Rattle.std.proofs.Common.{◌≡◌, ◌≢◌, ◌⊎◌, inl, inr, ⊎_elim, ℕ, ◌-◌, ◌/◌, ◌<◌, Bool, true, false, List, length, Some, refl, sym, ◌∙◌, ap, subst, arith}
 use Rattle.std.specs.Prelude.{◌&&◌, ◌==◌, nat_lt, if◌then◌else◌, slice_get}
 use Rattle.std.specs.Coded.{Coded-set, coded_ℕ, le_prop, Unit-prop}
 use Rattle.std.proofs.lemmas.Bool.{and_parts, and_from, eq-eqb, false≢true}
@@ -32,6 +32,9 @@ use Rattle.plan_steps.specs.Legality.{is_make, is_join, is_shard, is_made_kind, 
 use Rattle.plan_steps.specs.LegalNext.{make_here, join_here, reached_first}
 use Rattle.plan_steps.specs.After.{piece_length, grown_by, at_stage, put_whole, appended, after, IsAfter, IsShort, AreShort, IsInUnits, AreInUnits}
 use Rattle.plan_steps.specs.Laws.Advances.{data_kind, shard_kind, made_kind, file_kind}
+use Rattle.plan_steps.specs.Left.{left_of}
+use Rattle.plan_steps.specs.Laws.Next.{plan_sized}
+use Rattle.plan_steps.specs.Laws.Falls.{left_falls}
 use Rattle.plan_steps.specs.Laws.Short.{short_on, short_first}
 use Rattle.plan_steps.specs.Beginning.{first_stage, first_state, first_states}
 use Rattle.plan_steps.specs.Laws.Within.{state_within}
@@ -335,6 +338,13 @@ bounds_first plan servers is = record { short = (short_first plan servers is).0;
     each k u at =
         let found = named_at (first_state plan) (list_of plan) k u at in
         subst IsTextWhole found.2 (λ kind. first_not (is_found plan plan.command found.0.0 found.0.1))
+
+-- And it lowers the bound on the steps that are left.
+pub due_falls : (r : Running) (row : Row) (servers : ℕ) (onward : List FileState) (next : ℕ) (step : Step) → IsPlan r.plan servers → IsOnItsWay r row → IsInBounds r.plan r.states r.place → next_step r.plan r.states r.place ≡ Some step
+    → IsAfter r.plan step r.states r.place onward next → left_of r.plan onward next < left_of r.plan r.states r.place
+due_falls r row servers onward next step is way bounds e stepped =
+    left_falls r.plan r.states onward r.place next step
+    (record { sized = plan_sized r.plan servers is; listed = way.listed; apart = way.apart; reached = way.reached; short = bounds.short }) e stepped
 
 -- ---- the bounds are a fact
 

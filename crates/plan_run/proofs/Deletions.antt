@@ -1,6 +1,6 @@
 -- Pieces of the deletions that a decode writes.
-use Rattle.std.proofs.Common.{◌≡◌, ◌≢◌, ◌⊎◌, inl, inr, ℕ, zero, suc, ◌+◌, ◌-◌, ◌*◌, ◌/◌, ◌%◌, ◌<◌, ◌≤◌, ◌^◌, Bool, true, false, List, [], ◌∷◌, ◌++◌, length, take, drop, get_or, Some, refl, sym, ◌∙◌, ap, subst, arith, length-append, take-append-drop}
-use Rattle.std.specs.Prelude.{◌==◌, ◌&&◌, if◌then◌else◌, nat_lt, min, flat_map, slice_get}
+use Rattle.std.proofs.Common.{◌≡◌, ◌≢◌, ℕ, zero, suc, ◌+◌, ◌-◌, ◌*◌, ◌/◌, ◌%◌, ◌<◌, ◌≤◌, ◌^◌, Bool, true, false, List, [], ◌∷◌, ◌++◌, length, take, drop, get_or, Some, refl, sym, ◌∙◌, ap, subst, arith, length-append, take-append-drop}
+use Rattle.std.specs.Prelude.{◌==◌, if◌then◌else◌, nat_lt, min, slice_get}
 use Rattle.std.specs.List.{AllByRecursion}
 use Rattle.std.proofs.lemmas.Bool.{and_parts, and_from, eqb-true, ltb-false, false≢true}
 use Rattle.std.proofs.lemmas.List.{take_at, append-nil, length-take-le, length-take, length-drop}
@@ -20,7 +20,6 @@ use Rattle.plan_steps.specs.Kept.{Forms}
 use Rattle.plan_steps.specs.Planned.{deletions, joined, planned}
 use Rattle.plan_steps.specs.Listed.{IsListed}
 use Rattle.plan_steps.specs.Laws.Order.{name_at}
-use Rattle.plan_steps.specs.Lists.{list_of}
 use Rattle.plan_steps.specs.Next.{is_behind, is_data}
 use Rattle.plan_steps.specs.Legality.{is_behind_data, goes_on, goes_on_behind}
 use Rattle.plan_steps.specs.Laws.Advances.{data_kind}

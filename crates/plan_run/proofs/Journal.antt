@@ -1,16 +1,15 @@
 -- The piece of a journal that is next.
-use Rattle.std.proofs.Common.{◌≡◌, ◌≢◌, ◌⊎◌, inl, inr, ℕ, ◌+◌, ◌-◌, ◌*◌, ◌/◌, ◌%◌, ◌<◌, ◌≤◌, ◌^◌, Bool, true, false, List, length, take, drop, Some, refl, sym, ◌∙◌, ap, subst, arith}
+use Rattle.std.proofs.Common.{◌≡◌, ◌≢◌, ◌⊎◌, inl, inr, ℕ, ◌-◌, ◌*◌, ◌/◌, ◌%◌, ◌≤◌, true, List, length, take, drop, Some, refl, sym, ◌∙◌, ap, subst, arith}
 use Rattle.std.specs.Prelude.{◌==◌, min, slice_get}
 use Rattle.std.proofs.lemmas.Bool.{and_parts, and_from, eqb-true, false≢true}
 use Rattle.std.proofs.lemmas.List.{length-take, length-drop}
 use Rattle.wire_num.specs.Pairs.{journal_bytes}
 use Rattle.wire_num.specs.Laws.Pair.{length-journal_bytes}
-use Rattle.site_model.specs.Disk.{Files}
 use Rattle.world_model.specs.World.{Volume}
 use Rattle.file_names.specs.declared.Kind.{Kind}
 use Rattle.file_names.specs.declared.Kind.TheVariants.{Idx, Ecj}
 use Rattle.shard_table.specs.Table.{Row}
-use Rattle.image_meaning.specs.Share.{Share, share_of}
+use Rattle.image_meaning.specs.Share.{Share}
 use Rattle.plan_steps.specs.declared.plan.Stage.{Stage}
 use Rattle.plan_steps.specs.declared.plan.Stage.TheVariants.{Absent, Writing, Synced, Registered, Gone}
 use Rattle.plan_steps.specs.declared.plan.FileState.{FileState}
@@ -22,7 +21,7 @@ use Rattle.plan_steps.specs.Walk.{is_file}
 use Rattle.plan_steps.specs.Laws.Walk.{file_is}
 use Rattle.plan_steps.specs.Next.{is_behind}
 use Rattle.plan_steps.specs.Legality.{goes_on, goes_on_behind}
-use Rattle.plan_steps.specs.After.{piece_length, IsShort, IsInUnits}
+use Rattle.plan_steps.specs.After.{IsShort, IsInUnits}
 use Rattle.plan_steps.specs.Progressing.{Running, FitsProgress}
 use Rattle.plan_steps.specs.Stepping.{HasPiece}
 use Rattle.plan_run.specs.declared.names.FileNames.{FileNames}

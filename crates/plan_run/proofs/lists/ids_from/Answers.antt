@@ -1,4 +1,4 @@
-use Rattle.std.proofs.Common.{◌≡◌, ◌-◌, ℕ, List, length, take, drop, ◌∙◌, ap}
+use Rattle.std.proofs.Common.{ℕ, List, take, drop, ◌∙◌, ap}
 use Rattle.plan_run.proofs.Pairs.{front_of}
 use Rattle.plan_run.proofs.lists.ids_from.Goals as goal
 

@@ -10,8 +10,8 @@ use std::alloc::{AllocError, Global};
 use stripe_layout::{Geometry, Info};
 use world_model::types::Command;
 
-/// The plan of a coded volume that makes and moves no shard: a balance without moves. Its shards are those that the
-/// table has.
+/// The plan of a coded volume that makes and moves no shard: a balance without moves. The volume's shards are those
+/// that the table has, its index has so many entries, and these ids are deleted.
 pub fn coded_plan(
     alloc: Global,
     table: &ShardTable,

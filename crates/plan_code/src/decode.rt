@@ -18,8 +18,8 @@ use std::alloc::{AllocError, Global};
 use stripe_layout::Info;
 use world_model::types::Command;
 
-/// The plan that makes a plain volume of a coded one, of which these ids are deleted, at the lowest server with a
-/// shard. The index is that of the shards.
+/// The plan that makes a plain volume of a coded one at the lowest server with a shard. The index is the volume's,
+/// and these ids are deleted.
 pub fn decode_plan(
     alloc: Global,
     table: &ShardTable,

@@ -8,8 +8,8 @@ use file_names::MAX_SHARDS;
 use shard_table::ShardTable;
 use stripe_layout::Geometry;
 
-/// Whether the table's shards of the volume are of the ratio, and at least as many as it has data shards, as a plan of a
-/// coded volume needs.
+/// Whether the table's shards of the volume are of the ratio, and at least as many as it has data shards, as a plan
+/// of a coded volume needs.
 pub fn stand_enough(table: &ShardTable, volume: u32, geometry: &Geometry) -> bool
     ensures { IsTrue result ↔ StandEnough geometry.now (row_of table.now volume) }
 {

@@ -1,3 +1,4 @@
 pub mod Made
 pub mod Start
 pub mod Once
+pub mod Follow

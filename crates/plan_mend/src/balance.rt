@@ -13,8 +13,8 @@ use shard_table::ShardTable;
 use std::alloc::{AllocError, Global};
 use stripe_layout::Info;
 
-/// The plan that moves shards of a coded volume, of whose index so many entries and of which these ids are deleted, until
-/// no two servers' counts differ by more than one.
+/// The plan that moves shards of a coded volume until no two servers' counts differ by more than one. The volume's
+/// index has so many entries, and these ids are deleted.
 pub fn balance_plan(
     alloc: Global,
     table: &ShardTable,

@@ -59,8 +59,8 @@ fn fill_one(
 ) -> Result<(), AllocError>
     requires added { IsAdded table.old volume }
     requires shard { shard < max_shards }
-    ensures filled { OnOk result (FillsOne table.old.servers shard (row_of table.old volume) (row_of table.new volume)
-        targets.old.items targets.new.items) }
+    ensures filled { OnOk result (FillsOne table.old.servers shard (row_of table.old volume)
+        (row_of table.new volume) targets.old.items targets.new.items) }
     ensures keeps { KeepsVolume table.old table.new volume }
 {
     if table.place(volume, shard).is_some() {

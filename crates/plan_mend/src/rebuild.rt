@@ -15,9 +15,9 @@ use std::alloc::{AllocError, Global};
 use stripe_layout::Info;
 use world_model::types::Command;
 
-/// The plan that makes the missing shards of a coded volume, of whose index so many entries and of which these ids are
-/// deleted, and then moves shards as a balance does. Each missing shard, by rising number, goes to the server that has
-/// the fewest by then.
+/// The plan that makes the missing shards of a coded volume, and then moves shards as a balance does. Each missing
+/// shard, by rising number, goes to the server that has the fewest by then. The volume's index has so many entries,
+/// and these ids are deleted.
 pub fn rebuild_plan(
     alloc: Global,
     table: &ShardTable,

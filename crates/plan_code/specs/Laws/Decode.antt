@@ -1,4 +1,4 @@
--- The plan of a decode begins on the files of a coded volume. The last law is for the store with jobs, to come.
+-- The plan of a decode begins on the files of a coded volume.
 use Rattle.std.proofs.Common.{◌≡◌, ℕ, ◌+◌, ◌*◌, ◌^◌, ◌<◌, ◌≤◌, true, false, List, [], ◌∷◌, ◌++◌, length, refl, sym, ◌∙◌, ap, subst, arith, append_assoc, append-nil, length-append}
 use Rattle.std.specs.List.{AllByRecursion}
 use Rattle.world_model.specs.Sizes.{max_dat, deletion_length}

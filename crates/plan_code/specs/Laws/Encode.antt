@@ -1,4 +1,4 @@
--- The plan of an encode begins on the files of a plain volume. The last laws are for the store with jobs, to come.
+-- The plan of an encode begins on the files of a plain volume.
 use Rattle.std.proofs.Common.{◌≡◌, ℕ, ◌*◌, ◌<◌, ◌≤◌, true, List, [], length, Option, Some, None, IsTrue, refl, sym, ◌∙◌, ap, subst, arith, flat_map}
 use Rattle.std.specs.Prelude.{nat_eq}
 use Rattle.std.specs.List.{IsDistinct, AllByRecursion}

@@ -7,7 +7,6 @@ use Rattle.world_model.specs.Sizes.{deletion_length, max_dat}
 use Rattle.world_model.specs.Ratios.{data_count, data_count-some}
 use Rattle.world_model.specs.declared.types.Command.{Command}
 use Rattle.world_model.specs.declared.types.Command.TheVariants.{Decode}
-use Rattle.volume_forms.specs.declared.Entry.{Entry}
 use Rattle.stripe_layout.specs.declared.Info.{Info}
 use Rattle.stripe_layout.specs.Stripes.{GeometryInRange, shards_in_all}
 use Rattle.stripe_layout.specs.Laws.Info.{IsInRange}
@@ -21,7 +20,7 @@ use Rattle.plan_steps.specs.Plans.{places_of, IsPlaced, IsPlanBy, IsPlan}
 use Rattle.plan_steps.specs.Members.{Has, has_any}
 use Rattle.plan_steps.specs.MendList.{held_place}
 use Rattle.plan_steps.specs.Laws.Move.{place_within}
-use Rattle.plan_code.specs.Made.{FitTypes, IsEncodeOf, IsCodedOf, LeavesAll, IsDecodeOf, StandEnough}
+use Rattle.plan_code.specs.Made.{FitTypes, IsCodedOf, LeavesAll, IsDecodeOf, StandEnough}
 
 -- a place is a server of the site
 pub place_below : (servers : ℕ) (row : Row) (i s : ℕ) → IsRow servers row → place_in row i ≡ Some s → s < servers
@@ -76,17 +75,3 @@ decode_plans servers v listed text ids row plan is given stand range short room 
     coded_plans servers v listed text ids row plan is.coded given.is_row stand given range short room
     (subst (λ (c : Command). IsPlanBy servers plan c) (sym is.command)
     (record { row = row; placed = coded_placed servers v listed text ids row plan is.coded given.is_row stand; home = is.home; targets = is.targets; moves = is.moves }))
-
--- An encode is one, too.
-pub encode_plans : (servers v at : ℕ) (text : Info) (listed : List Entry) (plan : Plan) → IsEncodeOf servers v at text listed plan → 0 < servers → servers ≤ max_servers → IsInRange text → length listed < 2 ^ 60 → IsPlan plan servers
-encode_plans servers v at text listed plan is some few range short = record {
-  some_server = some;
-  few_servers = few;
-  geometry = subst (λ (t : Info). GeometryInRange t.geometry) (sym is.info) range.geometry;
-  some_bytes = subst (λ (t : Info). 8 ≤ t.dat_size) (sym is.info) range.least;
-  room = omega (arith, range.most, ap (λ (t : Info). t.dat_size) is.info, ap length is.makes.deleted);
-  entries = omega (arith, short, ap length is.entries);
-  count = omega (arith, is.entry_count);
-  ids = subst (AllByRecursion (λ id. id < 2 ^ 64)) (sym is.makes.deleted) tt;
-  made = subst (λ (c : Command). IsPlanBy servers plan c) (sym is.command) (is.makes, ap (λ (t : Info). t.geometry.ratio) is.info);
-}

@@ -1,4 +1,4 @@
--- Each file is once in the list of an encode and of a decode. The last laws of each are for the store with jobs, to come.
+-- Each file is once in the list of an encode and of a decode.
 use Rattle.std.proofs.Common.{◌≡◌, inl, inr, ⊎_elim, ℕ, zero, suc, ◌+◌, ◌%◌, ◌<◌, ◌≤◌, Bool, true, false, cond, List, [], ◌∷◌, ◌++◌, map, flat_map, filter, slice_get, Option, Some, None, refl, sym, ◌∙◌, ap, subst, arith}
 use Rattle.std.specs.List.{range_with_len}
 use Rattle.world_model.specs.declared.types.Ratio.{Ratio}
@@ -20,6 +20,7 @@ use Rattle.plan_steps.specs.Plans.{all_numbers, place_if, IsEncodePlan, IsDecode
 use Rattle.plan_steps.specs.Members.{Has, at_has, has_either, has_map, map_has, flat_has, filter_has, range_has}
 use Rattle.plan_steps.specs.Beginning.{first_state, first_states}
 use Rattle.plan_steps.specs.Laws.Order.{named_at}
+use Rattle.plan_code.specs.Started.{AreNamed}
 
 -- ---- lists without repetition
 
@@ -239,11 +240,11 @@ module _ (plan : Plan) (servers : ℕ) (is : IsDecodePlan servers plan) where
 -- ---- the list when the plan begins
 
 -- So are the states of such a list, where its names are those of files on servers.
-pub first_apart : (plan : Plan) → Once (list_of plan) → ((server : ℕ) (kind : Kind) → Has (list_of plan) (server, kind) → IsKind kind × (server < max_servers)) → AreStates (first_states plan (list_of plan))
+pub first_apart : (plan : Plan) → Once (list_of plan) → AreNamed plan → AreStates (first_states plan (list_of plan))
 first_apart plan once named = record {
   named = λ j s at.
       let found = named_at (first_state plan) (list_of plan) j s at in
-      subst (λ (x : FileState). IsKind x.kind × (x.server < max_servers)) found.2 (named found.0.0 found.0.1 (at_has (list_of plan) j found.0 found.1));
+      subst (λ (x : FileState). IsKind x.kind × (x.server < max_servers)) found.2 (named j found.0.0 found.0.1 found.1);
   apart = λ i j a b at_a at_b same_server same_kind.
       let one = named_at (first_state plan) (list_of plan) i a at_a in
       let two = named_at (first_state plan) (list_of plan) j b at_b in

@@ -1,4 +1,4 @@
--- Each file is once in the list of a rebuild and of a balance. The last laws are for the store with jobs, to come.
+-- Each file is once in the list of a rebuild and of a balance.
 use Rattle.std.proofs.Common.{◌≡◌, ◌⊎◌, inl, inr, ⊎_elim, ℕ, ◌≤◌, Bool, true, false, List, [], ◌∷◌, ◌++◌, map, flat_map, filter, not, slice_set, get_or-set_same, Some, None, refl, sym, ◌∙◌, ap, subst, arith}
 use Rattle.std.specs.Prelude.{◌||◌, ◌&&◌, ◌==◌, if◌then◌else◌, is_some}
 use Rattle.std.proofs.lemmas.Bool.{and_parts, eq-eqb, false≢true}

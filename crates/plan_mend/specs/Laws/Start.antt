@@ -1,4 +1,4 @@
--- The plans of a rebuild and of a balance begin on the files of a coded volume. For the store with jobs, to come.
+-- The plans of a rebuild and of a balance begin on the files of a coded volume.
 use Rattle.std.proofs.Common.{◌≡◌, ℕ, ◌^◌, ◌<◌, ◌≤◌, false, List, [], refl, sym, ◌∙◌, ap}
 use Rattle.std.specs.List.{AllByRecursion}
 use Rattle.world_model.specs.declared.types.Command.{Command}

@@ -79,9 +79,6 @@ told_same a b fault same h = subst (λ d. TellsFirst d fault) (sym same) h
 pub record AreRight (dat : List ℕ) (entries rest : List Entry) : Type 0 where
   pub same : headers_damage dat rest ≡ headers_damage dat entries
 
-pub right_none : (dat : List ℕ) (entries : List Entry) → AreRight dat entries entries
-right_none dat entries = record { same = refl }
-
 pub right_more : {dat : List ℕ} {entries rest more : List Entry} (e : Entry) → rest ≡ e ∷ more → header_damage dat e ≡ None → AreRight dat entries rest → AreRight dat entries more
 unfolding headers_damage
 right_more {dat} {entries} {rest} {more} e is none so_far = record { same = sym (ap (λ d. first_damage d (headers_damage dat more)) none) ∙ ap (headers_damage dat) (sym is) ∙ so_far.same }

@@ -80,9 +80,6 @@ joined {kept} p dat range next files follows is = record {
   both = ap (range_bytes dat) is ∙ joined_bytes dat range next follows;
 }
 
-pub copied_first : {p : Place} {dat : List ℕ} {range : Range} {old new : Files} (next : Range) → Grows p (range_bytes dat range) old new → Joins p dat range next next old new
-copied_first {p} {dat} {range} next did = record { front = range_bytes dat range; grows = did; both = refl }
-
 -- ---- records one after the other
 
 -- so much is copied, and this range and these records are left
@@ -90,9 +87,6 @@ pub record HasCopied (p : Place) (dat : List ℕ) (entries : List Entry) (range 
   pub front : List ℕ
   pub grows : Grows p front old new
   pub left : front ++ (range_bytes dat range ++ copied dat rest) ≡ copied dat entries
-
-pub copied_none : {range : Range} (p : Place) (dat : List ℕ) (entries : List Entry) (files : Files) → range.length ≡ 0 → HasCopied p dat entries range entries files files
-copied_none {range} p dat entries files none = record { front = []; grows = grows_none p files; left = ap (λ n. take n (drop range.at dat) ++ copied dat entries) none }
 
 pub copied_more : {p : Place} {dat : List ℕ} {entries rest more : List Entry} {range next kept : Range} {old mid new : Files} (e : Entry) → rest ≡ e ∷ more → range_bytes dat next ≡ bytes_by dat e
     → HasCopied p dat entries range rest old mid → Joins p dat range next kept mid new → HasCopied p dat entries kept more old new

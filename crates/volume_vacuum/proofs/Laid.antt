@@ -1,5 +1,5 @@
 -- How entries are laid out one after the other.
-use Rattle.std.proofs.Common.{◌≡◌, ℕ, ◌+◌, ◌*◌, ◌≤◌, ◌<◌, List, [], ◌∷◌, ◌++◌, cond, Option, None, refl, sym, ◌∙◌, ap, subst, arith, append_assoc}
+use Rattle.std.proofs.Common.{◌≡◌, ℕ, ◌+◌, ◌*◌, ◌≤◌, ◌<◌, List, [], ◌∷◌, ◌++◌, cond, Option, None, sym, ◌∙◌, ap, subst, arith, append_assoc}
 use Rattle.std.specs.FinMap.{empty, insert}
 use Rattle.std.proofs.lemmas.Bool.{lt-ltb, le-ltb}
 use Rattle.std.proofs.lemmas.List.{append-nil}
@@ -21,9 +21,6 @@ pub record HasLaid (entries rest : List Entry) (index : Index) (bytes : List ℕ
   pub in_bytes : bytes ++ index_bytes (moved_entries end rest) ≡ index_bytes (moved_entries 8 entries)
   pub ends : moved_end end rest ≡ moved_end 8 entries
   pub within : end ≤ behind
-
-pub laid_none : (entries : List Entry) → HasLaid entries entries empty [] 8 8
-laid_none entries = record { apart = refl; in_index = refl; in_bytes = refl; ends = refl; within = omega arith }
 
 -- the next one begins too early
 pub laid_overlaps : {entries rest more : List Entry} {index : Index} {bytes : List ℕ} {end behind at : ℕ} (e : Entry) → rest ≡ e ∷ more → at ≡ 8 * e.offset → at < behind

@@ -214,12 +214,6 @@ module _ (volume : DatVolume) {files : Files} {es : List Entry} {front bytes : L
 -- ---- refusals
 
 module _ (tells : Bool) (volume : DatVolume) (files : Files) where
-  pub refusal_memory : {fault : GetFault} → fault ≡ get_fault.Memory → IsRefusal tells volume files fault
-  refusal_memory {fault} is = subst (IsRefusal tells volume files) (sym is) (record { blame = tt; differ = tt; told = λ told. tt; sound = λ told dat idx ps holds. tt })
-
-  pub refusal_fault : {fault : GetFault} → fault ≡ get_fault.Fault (record { server = volume.server }) → IsRefusal tells volume files fault
-  refusal_fault {fault} is = subst (IsRefusal tells volume files) (sym is) (record { blame = refl; differ = tt; told = λ told. tt; sound = λ told dat idx ps holds. tt })
-
   -- the first damage of the live entries
   pub refusal_damage : {es : List Entry} → IsByPlace volume.index es → (fault : GetFault) → ReadBlamesServer volume.server fault → HasDifference fault
       → (IsTrue tells → TellsFirst (vacuum_damage (dat_in files volume.server volume.volume) es) fault) → IsRefusal tells volume files fault

@@ -27,10 +27,7 @@ pub record IsNamed (home : Home) : Type 0 where
   pub cpd_temp : string_bytes home.cpd_temp ≡ spelled home.volume Cpd true
   pub cpx_temp : string_bytes home.cpx_temp ≡ spelled home.volume Cpx true
 
--- the place of a file, and of a temporary one
-abbrev pub final_at : Home → Kind → Place
-final_at home kind = place_of home.volume home.server kind false
-
+-- the place of a temporary file
 abbrev pub temp_at : Home → Kind → Place
 temp_at home kind = place_of home.volume home.server kind true
 

@@ -14,14 +14,13 @@ use Rattle.volume_forms.specs.Laws.Entry.{entries-append}
 use Rattle.needle_record.specs.declared.Record.{Record}
 use Rattle.needle_record.specs.Spelling.{HasRoom, SpellsNeedle, SpellsDeletion, SpellsContent, length_of_record}
 use Rattle.needle_record.specs.Reading.{needle_at}
-use Rattle.needle_record.specs.Records.{Placed, records, records_from, end_from, end_of, entry_of, AreRecords, StandsIn, fold_records}
+use Rattle.needle_record.specs.Records.{Placed, records, records_from, end_from, end_of, entry_of, AreRecords, StandsIn}
 use Rattle.needle_record.specs.Laws.Records.{records_from-append, records_from-nothing, records-stand, whole_dat-records}
 use Rattle.needle_record.specs.Laws.Spelling.{found-spelled, needle_at-append, needle_at-take, found-length, found-within, length_of_record-least}
 use Rattle.image_meaning.specs.Plain.{IsExact}
 use Rattle.image_meaning.specs.Laws.Plain.{entries-one, has_super-front, has_super-long}
 use Rattle.volume_vacuum.specs.Live.{live_records, moved, vacuumed, own_bytes, raised, new_dat, new_idx}
 use Rattle.volume_vacuum.specs.Laws.Lives.{room_of, live-all, live-room}
-use Rattle.volume_vacuum.specs.Laws.Needles.{vacuumed-used}
 
 -- ---- the super block
 
@@ -170,7 +169,3 @@ module _ (dat idx : List ℕ) (ps : List Placed) (exact : IsExact dat idx ps) wh
     index = moved-entries 8 (live_records ps) (All-weaker (StandsIn dat) (λ (p : Placed). CanStand p.1) (λ p. can_stand dat p bytes) (live_records ps) stand) most;
     index_length = index-long (vacuumed ps);
   }
-
-  -- what is used is the length of the new data file
-  pub vacuumed-ends : (fold_records (vacuumed ps)).used ≡ length (new_dat dat ps)
-  vacuumed-ends = vacuumed-used ps ∙ sym length-new_dat

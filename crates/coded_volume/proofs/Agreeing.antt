@@ -1,5 +1,5 @@
 -- What a volume's files give where they agree with it.
-use Rattle.std.proofs.Common.{inl, ◌≡◌, ℕ, ◌+◌, ◌*◌, ◌<◌, ◌≤◌, Bool, true, false, cond, List, [], length, take, drop, Option, Some, None, All, is_some, IsTrue, Result, Ok, Err, refl, sym, ◌∙◌, ap, subst, arith}
+use Rattle.std.proofs.Common.{inl, ◌≡◌, ℕ, ◌≤◌, Bool, true, false, cond, List, [], length, take, drop, Option, Some, None, All, is_some, Result, Ok, refl, sym, ◌∙◌, ap, subst, arith}
 use Rattle.std.specs.Prelude.{not, unwrap_or, IsSome}
 use Rattle.std.specs.Option.{option_map_or}
 use Rattle.std.specs.Ordering.{nat_cmp}
@@ -8,11 +8,10 @@ use Rattle.std.specs.FinSet as set
 use Rattle.std.proofs.Math.Seq.{take-length}
 use Rattle.site_model.specs.Disk.{File, Files, bytes_of, standing}
 use Rattle.wire_num.specs.Numbers.{number_of}
-use Rattle.world_model.specs.World.{Needle, Needles}
-use Rattle.world_model.specs.declared.types.Content.{Content}
+use Rattle.world_model.specs.World.{Needles}
 use Rattle.world_model.specs.Ratios.{counts-sixteen}
-use Rattle.file_names.specs.Names.{max_shards, place_of}
-use Rattle.file_names.specs.declared.Kind.TheVariants.{Shard, Ecx}
+use Rattle.file_names.specs.Names.{max_shards}
+use Rattle.file_names.specs.declared.Kind.TheVariants.{Shard}
 use Rattle.volume_forms.specs.declared.Entry.{Entry}
 use Rattle.volume_forms.specs.Forms.{entries}
 use Rattle.volume_forms.specs.Kept.{entry_end}
@@ -26,7 +25,7 @@ use Rattle.needle_record.specs.Records.{Placed, StandsIn, AgreesAt, entry_of, re
 use Rattle.needle_record.specs.Laws.Records.{records-stand, entry_of-place, entry_of-end}
 use Rattle.stripe_layout.specs.declared.Info.{Info}
 use Rattle.stripe_layout.specs.Stripes.{shards_in_all}
-use Rattle.image_meaning.specs.Files.{VolumeFiles, contents, files_of, stands, bytes_at, is_holder}
+use Rattle.image_meaning.specs.Files.{stands, is_holder}
 use Rattle.image_meaning.specs.Coded.{dat_by, dat_of, volume_info, without_ids}
 use Rattle.image_meaning.specs.Sound.{IsHolder, HasStripes}
 use Rattle.image_meaning.specs.Laws.CodedLoss.{any_range, length-dat_of, volume_info_in_range}

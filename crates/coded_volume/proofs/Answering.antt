@@ -1,12 +1,9 @@
 -- What a read answers, by what was looked up.
-use Rattle.std.proofs.Common.{◌≡◌, inl, inr, ℕ, ◌<◌, ◌≤◌, Bool, true, false, List, length, Option, Some, None, Result, Ok, Err, refl, sym, ◌∙◌, ap, subst, arith}
-use Rattle.std.specs.Prelude.{IsTrue, MatchResult}
+use Rattle.std.proofs.Common.{◌≡◌, ℕ, Bool, true, false, List, length, Some, None, Result, Ok, Err, refl, sym, ◌∙◌, ap, subst}
 use mathlib.Core.Bool.{true≢false}
 use Rattle.site_model.specs.Disk.{Files}
-use Rattle.site_model.specs.Counts.{Counts, IsLater}
-use Rattle.site_model.specs.Laws.Count.{takes_none, takes_within}
+use Rattle.site_model.specs.Counts.{Counts}
 use Rattle.wire_num.specs.Numbers.{number_of}
-use Rattle.world_model.specs.Ratios.{data_count, data_count-some}
 use Rattle.volume_forms.specs.declared.Entry.{Entry}
 use Rattle.needle_record.specs.declared.Record.{Record}
 use Rattle.needle_record.specs.Reading.{needle_at}
@@ -16,14 +13,13 @@ use Rattle.shard_table.specs.Table.{Row}
 use Rattle.dat_volume.specs.declared.fault.GetFault.{GetFault}
 use Rattle.dat_volume.specs.declared.fault.GetFault.TheVariants as get_fault
 use Rattle.dat_volume.specs.Needles.{IsCookie, IsNeedle, IsNoDamage, HasDifference, bytes_from}
-use Rattle.degraded_read.specs.Gathering.{reliable, standing_in}
+use Rattle.degraded_read.specs.Gathering.{standing_in}
 use Rattle.degraded_read.specs.Reading.{HasPlaces}
 use Rattle.coded_volume.specs.declared.volume.CodedVolume.{CodedVolume}
-use Rattle.coded_volume.specs.Agrees.{Agrees, IfAgrees, own_dat, own_files, own_needle}
-use Rattle.coded_volume.specs.Searching.{HaveAtMost, IsFound, TakesSearches}
-use Rattle.coded_volume.specs.Reading.{IsListed, IsLookedUp, IsReadFault, IsSearchFault, TakesLookUp, TellsFew, index_name, is_deleted}
+use Rattle.coded_volume.specs.Agrees.{IfAgrees, own_dat, own_needle}
+use Rattle.coded_volume.specs.Searching.{HaveAtMost, TakesSearches}
+use Rattle.coded_volume.specs.Reading.{IsLookedUp, IsReadFault, TakesLookUp, index_name, is_deleted}
 use Rattle.coded_volume.proofs.Agreeing.{none_of_deleted, none_listed, record_there, needle_there, cookie_there}
-use Rattle.coded_volume.proofs.Faults.{few_since}
 
 -- ---- a search
 

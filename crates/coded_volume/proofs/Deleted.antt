@@ -3,7 +3,7 @@ use Rattle.std.proofs.Common.{◌≡◌, inl, inr, ⊎_elim, ℕ, suc, ◌+◌, 
 use Rattle.std.specs.Prelude.{unwrap_or, nat_eq, Contains}
 use Rattle.std.specs.List.{AllByRecursion}
 use Rattle.world_model.specs.Sizes.{deletion_length, max_dat}
-use Rattle.site_model.specs.Disk.{File, Place, Files, Image, LeftOf, IsFirm, bytes_of, Disk}
+use Rattle.site_model.specs.Disk.{File, Place, Files, Image, LeftOf, bytes_of, Disk}
 use Rattle.site_model.specs.Disk as disk
 use Rattle.site_model.specs.Leaves.{weaker, both}
 use Rattle.site_model.specs.Touches.{touches_more, firm_left}

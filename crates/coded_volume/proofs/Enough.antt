@@ -1,6 +1,6 @@
 -- When the files of a volume are coded, whatever their text tells.
 use Rattle.std.proofs.Common.{◌≡◌, inl, inr, ℕ, zero, suc, ◌+◌, ◌<◌, ◌≤◌, Bool, true, false, cond, List, ◌∷◌, length, Option, Some, None, is_some, IsTrue, refl, sym, ◌∙◌, ap, subst, arith}
-use Rattle.std.specs.Prelude.{◌||◌, ◌↔◌, IsSome, IfSome, filter}
+use Rattle.std.specs.Prelude.{◌||◌, IsSome, IfSome, filter}
 use Rattle.std.specs.List.{range_with_len}
 use mathlib.Core.Bool.{true≢false}
 use Rattle.site_model.specs.Disk.{Files, IsPossible}
@@ -17,20 +17,8 @@ use Rattle.image_meaning.specs.Laws.Servers.{lowest-some, lowest-exists}
 use Rattle.image_meaning.specs.Laws.LossLaw.{is_coded}
 use Rattle.std.proofs.lemmas.Bool.{cases_lt}
 use Rattle.coded_volume.specs.Checking.{files_on}
-use Rattle.coded_volume.specs.CheckingTests.{HasTwelve, HasRow, HasRows, IsCodedAs}
+use Rattle.coded_volume.specs.CheckingTests.{HasTwelve, HasRows, IsCodedAs}
 use Rattle.coded_volume.specs.Opening.{IsTableOf}
-
-pub row_next : (row : Row) (files : VolumeFiles) (server n : ℕ) (has at : Bool) → HasRow row files server n → has ≡ stands files server (Shard n) → IsTrue at ↔ (place_in row n ≡ Some server) → has ≡ at → HasRow row files server (n + 1)
-row_next row files server n has at rows is tells same = record {
-  stand = λ i low place. elim (cases_lt i n) [
-    | inl before ↦ rows.stand i before place
-    | inr here ↦ let e : n ≡ i = omega arith in subst (λ j. IsTrue (stands files server (Shard j))) e (sym is ∙ same ∙ tells.1 (ap (place_in row) e ∙ place))
-  ];
-  only = λ i low there. elim (cases_lt i n) [
-    | inl before ↦ rows.only i before there
-    | inr here ↦ let e : n ≡ i = omega arith in subst (λ j. place_in row j ≡ Some server) e (tells.0 (sym same ∙ is ∙ subst (λ j. IsTrue (stands files server (Shard j))) (sym e) there))
-  ];
-}
 
 pub index_is : (files : VolumeFiles) (server : ℕ) → (stands files server Idx || stands files server Cpx) ≡ has_index files server
 unfolding index_at

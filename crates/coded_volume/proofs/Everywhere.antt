@@ -1,5 +1,5 @@
 -- How an id comes to one holder after the other.
-use Rattle.std.proofs.Common.{◌≡◌, ◌≢◌, ◌⊎◌, inl, inr, ℕ, ◌+◌, ◌^◌, ◌<◌, ◌≤◌, List, [], ◌∷◌, ◌++◌, Option, Some, None, refl, sym, ◌∙◌, ap, subst, arith, append_assoc}
+use Rattle.std.proofs.Common.{◌≡◌, ◌≢◌, ◌⊎◌, inl, inr, ℕ, ◌+◌, ◌^◌, ◌<◌, ◌≤◌, List, [], ◌++◌, Option, Some, None, refl, sym, ◌∙◌, ap, subst, arith}
 use Rattle.std.specs.Prelude.{unwrap_or}
 use Rattle.std.proofs.lemmas.List.{append-nil}
 use Rattle.std.proofs.lemmas.Bool.{cases_eq, cases_lt}
@@ -9,11 +9,11 @@ use Rattle.site_model.specs.Touches.{touches_none, touches_on, touches_more, fir
 use Rattle.wire_num.specs.Numbers as numbers
 use Rattle.wire_num.specs.Laws.Number.{length-bytes_of}
 use Rattle.wire_num.specs.Pairs.{pair_bytes, journal_bytes}
-use Rattle.wire_num.specs.Laws.Pair.{AreIds, HasOrGains, has_behind, has_half, journal_with}
+use Rattle.wire_num.specs.Laws.Pair.{AreIds, HasOrGains, has_behind, has_half}
 use Rattle.shard_table.specs.Table.{Row}
 use Rattle.shard_table.specs.Even.{count_on}
 use Rattle.ecj_journal.specs.Journals.{AppendsPair}
-use Rattle.coded_volume.specs.Deleting.{HasShard, AreJournals, AreFirmJournals, AppendsEverywhere, AppendsAt}
+use Rattle.coded_volume.specs.Deleting.{HasShard, AreFirmJournals, AppendsEverywhere, AppendsAt}
 
 -- what is left of a firm journal with this id behind, or without
 gains_by : (ids : List ℕ) (id : ℕ) (file : Option File) (image : Option (List ℕ)) (bytes : List ℕ) → IsFirm file → bytes_of file ≡ bytes → LeftOf file image → HasOrGains ids id bytes → HasOrGains ids id (unwrap_or image [])
@@ -93,13 +93,3 @@ module _ (servers : ℕ) (row : Row) (name : List ℕ) (id : ℕ) where
           | inl holds ↦ (did.holder holds).touches.others (s, name) (λ e. other (ap (λ (p : Place). p.0) e))
           | inr none ↦ ap (λ (d : Disk). d.files (s, name)) (did.other (λ holds. omega (arith, holds, none)))
         ]
-
-  -- all are done
-  pub all_deleted : (n : ℕ) (old new : Disk) → servers ≤ n → HasAppendedBelow n old new → (ids : List ℕ) → AreJournals servers row name ids old.files → AreFirmJournals servers row name (ids ++ id ∷ []) new.files
-  all_deleted n old new enough did ids journals s within has =
-      let is = did.written s (omega arith) has in
-      record {
-        firm = subst IsFirm (sym is) (refl, refl);
-        bytes = ap bytes_of is ∙ ap (λ (l : List ℕ). l ++ pair_bytes id) (journals s within has)
-            ∙ sym (append_assoc (journal_bytes ids) (numbers.bytes_of 8 id) (numbers.bytes_of 8 id)) ∙ journal_with ids id;
-      }

@@ -1,11 +1,11 @@
 -- What the steps of a read tell, and in how many calls.
-use Rattle.std.proofs.Common.{◌≡◌, ◌⊎◌, inl, inr, ℕ, ◌+◌, ◌*◌, ◌<◌, ◌≤◌, List, ◌++◌, length, take, drop, Option, Some, None, true, false, Result, Ok, Err, refl, sym, ◌∙◌, ap, subst, arith}
+use Rattle.std.proofs.Common.{◌≡◌, ◌⊎◌, inl, inr, ℕ, ◌+◌, ◌*◌, ◌<◌, ◌≤◌, List, ◌++◌, length, take, drop, Option, Some, None, true, false, Ok, Err, refl, sym, ◌∙◌, ap, subst, arith}
 use Rattle.std.proofs.lemmas.List.{take-append-le}
 use Rattle.std.proofs.Math.Seq.{take-length}
 use mathlib.Core.Bool.{true≢false}
 use Rattle.site_model.specs.Disk.{Files}
 use Rattle.site_model.specs.Counts.{Counts, IsLater, TakesCalls}
-use Rattle.site_model.specs.Laws.Count.{takes_none, takes_on, takes_within}
+use Rattle.site_model.specs.Laws.Count.{takes_on, takes_within}
 use Rattle.world_model.specs.declared.types.What.TheVariants as what
 use Rattle.volume_forms.specs.declared.Entry.{Entry}
 use Rattle.volume_forms.specs.Kept.{entry_end}
@@ -14,20 +14,19 @@ use Rattle.needle_record.specs.declared.NeedleFault.{NeedleFault}
 use Rattle.needle_record.specs.declared.NeedleFault.TheVariants as needle_fault
 use Rattle.needle_record.specs.Given.{Gives}
 use Rattle.needle_record.specs.Reading.{needle_at, HasHeader}
-use Rattle.needle_record.specs.Records.{Placed, StandsIn, entry_of}
 use Rattle.stripe_layout.specs.Stripes.{shards_in_all}
 use Rattle.shard_table.specs.Table.{Row}
 use Rattle.dat_volume.specs.declared.fault.GetFault.{GetFault}
 use Rattle.dat_volume.specs.declared.fault.GetFault.TheVariants as get_fault
-use Rattle.dat_volume.specs.Needles.{Damage, IsNoDamage, HasDifference, bytes_from, damage_of, reading_damage}
+use Rattle.dat_volume.specs.Needles.{Damage, IsNoDamage, HasDifference, bytes_from, reading_damage}
 use Rattle.dat_volume.specs.Reading.{Tells, front_damage}
 use Rattle.dat_volume.proofs.Heads.{own_bytes}
 use Rattle.dat_volume.proofs.Live.{header_right}
-use Rattle.degraded_read.specs.Ranges.{GivesRange, TakesParts, parts_of}
+use Rattle.degraded_read.specs.Ranges.{GivesRange}
 use Rattle.degraded_read.specs.Reading.{shards_standing}
 use Rattle.coded_volume.specs.declared.volume.CodedVolume.{CodedVolume}
-use Rattle.coded_volume.specs.Agrees.{Agrees, IfAgrees, own_dat, own_files}
-use Rattle.coded_volume.specs.Reading.{ArePartsOf, IsFront, IsListed, IsReadFault, TakesBoth, TakesFewCalls, TakesFront, TakesLookUp, TellsFew, is_deleted, length_by}
+use Rattle.coded_volume.specs.Agrees.{IfAgrees, own_dat}
+use Rattle.coded_volume.specs.Reading.{ArePartsOf, IsFront, IsListed, IsReadFault, TakesFewCalls, TakesFront, TakesLookUp, TellsFew, is_deleted, length_by}
 use Rattle.coded_volume.proofs.Agreeing.{dat_long, end_within, front_header, range_there, read_at}
 use Rattle.coded_volume.proofs.Searches.{reliable_since}
 
@@ -38,13 +37,6 @@ none_told : (fault : GetFault) → Tells None fault → IsNoDamage fault
 none_told (get_fault.Fault device) h = absurd h
 none_told (get_fault.Damaged w a b) h = absurd cc
 none_told get_fault.Memory h = tt
-
--- a fault of a server, or want of memory
-pub undamaged : {tells : Type 0} {volume : CodedVolume} {row : Row} {files : Files} {e : Entry} {old new : Counts} (fault : GetFault) → IsNoDamage fault → TellsFew volume row old new fault
-    → IsReadFault tells volume row files e old new fault
-undamaged (get_fault.Fault device) none few = record { differ = tt; undamaged = λ told agrees p stands is. tt; few = few }
-undamaged (get_fault.Damaged w a b) none few = absurd none
-undamaged get_fault.Memory none few = record { differ = tt; undamaged = λ told agrees p stands is. tt; few = tt }
 
 -- a device's fault isn't told of a header or a record that was read
 few_of_tells : (volume : CodedVolume) (row : Row) (old new : Counts) (d : Option Damage) (fault : GetFault) → Tells d fault → TellsFew volume row old new fault
@@ -126,14 +118,6 @@ few_since volume row old mid new get_fault.Memory later few = tt
 -- ---- calls
 
 module _ (volume : CodedVolume) (row : Row) where
-  pub takes_no_front : (e : Entry) (count : ℕ) (counts : Counts) → TakesFront volume row e count counts counts
-  takes_no_front e count counts = record { parts = 0; range = inl refl; takes = takes_within (omega arith) (omega arith) (takes_none {width = 0} counts) }
-
-  pub takes_front : (e : Entry) (count at : ℕ) (old new : Counts) → at ≡ 8 * e.offset → TakesParts volume.info row at count old new → TakesFront volume row e count old new
-  takes_front e count at old new place did =
-      let there = subst (λ n. TakesParts volume.info row n count old new) place did in
-      record { parts = parts_of there.pieces; range = inr (record { pieces = there.pieces; located = there.located; counted = refl }); takes = there.takes }
-
   module _ (files : Files) (id : ℕ) (count : Entry → ℕ) {old mid : Counts} (looked : TakesLookUp volume row files id old mid) where
     -- a search alone
     pub takes_search : TakesFewCalls volume row files id count old mid

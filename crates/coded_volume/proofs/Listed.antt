@@ -1,5 +1,5 @@
 -- The entry of an id in the index of a data file's records.
-use Rattle.std.proofs.Common.{◌≡◌, ◌≢◌, ℕ, zero, suc, ◌+◌, ◌<◌, Bool, true, false, cond, ◌&&◌, T, List, [], ◌∷◌, length, map, All, Option, Some, None, refl, sym, ◌∙◌, ap, subst, arith}
+use Rattle.std.proofs.Common.{◌≡◌, ℕ, zero, suc, ◌<◌, Bool, true, false, cond, ◌&&◌, T, List, [], ◌∷◌, length, map, All, Option, Some, None, refl, sym, ◌∙◌, ap, subst, arith}
 use Rattle.std.specs.Prelude.{Contains, slice_index_or}
 use Rattle.std.specs.Ordering.{nat_cmp, is_eq, is_lt, eq_by_cmp}
 use Rattle.std.specs.declared.cmp.Ordering.{Ordering}
@@ -8,9 +8,8 @@ use Rattle.std.specs.Cmp.{nat_cmp_total, tied_itself}
 use Rattle.std.specs.FinMap.{FinMap, get, values, entries, entries_sorted, find, is_sorted, get-entries, nat_cmp-IsAntisymmetric}
 use Rattle.std.specs.FinMap.Entries.{below_all}
 use Rattle.volume_forms.specs.declared.Entry.{Entry}
-use Rattle.needle_record.specs.Records.{Placed, Index, index_of, live, fold_records, StandsIn, AgreesAt}
+use Rattle.needle_record.specs.Records.{Placed, index_of, live, fold_records, AgreesAt}
 use Rattle.needle_record.specs.Laws.Records.{index_of-agrees}
-use Rattle.world_model.specs.World.{Needle}
 use Rattle.ecx_index.specs.Search.{HasRisingIds, IsEntryOf}
 
 second : (a b : Bool) → T (a && b) → T b

@@ -8,7 +8,7 @@ use Rattle.std.specs.Cmp.{nat_cmp_total, tied_itself}
 use Rattle.std.specs.List.{All, Any, AllWithin, AllByRecursion, IsDistinct}
 use Rattle.std.specs.FinMap.{FinMap, get, remove, find, get-remove, get-from_entries, nat_cmp-IsAntisymmetric}
 use Rattle.std.proofs.lemmas.Bool.{cases_eq, eqb-false, ne_eqb}
-use Rattle.std.proofs.lemmas.List.{length-append, get_or_default, take_all, take_more, take-append-le}
+use Rattle.std.proofs.lemmas.List.{get_or_default, take_all, take_more, take-append-le}
 use Rattle.std.proofs.lemmas.List.Elements.{All-push, All-contains, AllWithin-more, Contains-append_left}
 use Rattle.std.proofs.lemmas.List.Quantifiers.{Any-push}
 use mathlib.Core.Bool.{true≢false}
@@ -109,14 +109,6 @@ known_there es (id ∷ ids) h = (subst IsSome (sym (get-from_entries nat_cmp_tot
 
 -- ---- whether a journal follows
 
-follows_within : (ids : List ℕ) (journal : Journal) → Follows ids journal → (length journal.ids.items ≤ length ids) × (length ids ≤ length journal.ids.items + 1)
-follows_within ids journal follows = by_stage follows.stage
-  where
-    by_stage : IsStage ids journal.ids.items → (length journal.ids.items ≤ length ids) × (length ids ≤ length journal.ids.items + 1)
-    by_stage (inl same) = let e = ap length same in (omega (arith, e), omega (arith, e))
-    by_stage (inr (id, more)) =
-        let e : length ids ≡ length journal.ids.items + 1 = ap length more ∙ length-append journal.ids.items (id ∷ []) in (omega (arith, e), omega (arith, e))
-
 pub follows_is : (ids : List ℕ) (journal : Journal) → journal.rest ≤ 16 → length journal.ids.items ≤ length ids → length ids ≤ length journal.ids.items + 1
     → (journal.ids.items ≡ take (length journal.ids.items) ids) ↔ Follows ids journal
 follows_is ids journal rest low high = ((λ front. record { stage = by_length front (cases_eq (length ids) (length journal.ids.items)); rest = rest }), (λ follows. by_stage follows.stage))
@@ -174,30 +166,6 @@ module _ (files : VolumeFiles) (holders : Holders) (are : AreHolders files holde
       by_place server (inr (k, lt, at)) = subst (λ s. Any (IsJournalAt files s) journals) at (has.each k server (omega arith) (omega arith))
 
 -- ---- the longest journal
-
--- the journals agree on no others
-module _ (journals : List Journal) (index : FinMap nat_cmp Entry) (size : ℕ) (longest : List ℕ) (one : Any (λ (j : Journal). j.ids.items ≡ longest) journals)
-    (most : All (λ (j : Journal). length j.ids.items ≤ length longest) journals) where
-  same_longest : (ids : List ℕ) → AgreeOn journals index size ids → ids ≡ longest
-  same_longest ids agree =
-      let (k, j, lt, at, is) = agree.some_journal in
-      let short : length ids ≤ length longest = subst (λ (l : List ℕ). length l ≤ length longest) is (All-contains (λ (j : Journal). length j.ids.items ≤ length longest) journals j most (k, lt, at)) in
-      by_stage short (All-contains (Follows ids) journals one.1 agree.follow (one.0, one.2, one.3)).stage
-    where
-      by_stage : length ids ≤ length longest → IsStage ids one.1.ids.items → ids ≡ longest
-      by_stage short (inl same) = sym same ∙ one.4
-      by_stage short (inr (id, more)) =
-          let e : length ids ≡ length longest + 1 = ap length more ∙ length-append one.1.ids.items (id ∷ []) ∙ ap (λ (l : List ℕ). length l + 1) one.4 in
-          absurd (omega (arith, e))
-
-  pub no_room : ¬ (size + deletion_length * length longest ≤ max_dat) → (ids : List ℕ) → ¬ AgreeOn journals index size ids
-  no_room none ids agree = none (subst (λ (l : List ℕ). size + deletion_length * length l ≤ max_dat) (same_longest ids agree) agree.room)
-
-  pub not_following : Any (λ (j : Journal). ¬ Follows longest j) journals → (ids : List ℕ) → ¬ AgreeOn journals index size ids
-  not_following (k, j, lt, at, off) ids agree = off (subst (λ (l : List ℕ). Follows l j) (same_longest ids agree) (All-contains (Follows ids) journals j agree.follow (k, lt, at)))
-
-  pub not_known : ¬ AreKnown index longest → (ids : List ℕ) → ¬ AgreeOn journals index size ids
-  not_known none ids agree = none (subst (AreKnown index) (same_longest ids agree) agree.known)
 
 -- what each test found, of the journal at this place
 pub agree_at : (journals : List Journal) (index : FinMap nat_cmp Entry) (size place count : ℕ) (found : Journal) (longest : List ℕ) → place < length journals → found ≡ slice_index_or journals place found → found.ids.items ≡ longest

@@ -1,17 +1,17 @@
 -- What one search more in an index comes to.
-use Rattle.std.proofs.Common.{◌≡◌, ◌⊎◌, inl, inr, ℕ, zero, suc, ◌+◌, ◌*◌, ◌/◌, ◌^◌, ◌<◌, ◌≤◌, Bool, true, false, cond, not, List, [], ◌∷◌, length, take, Option, Some, None, refl, sym, ◌∙◌, ap, subst, arith}
-use Rattle.std.specs.Prelude.{filter, nat_eq, nat_lt, ◌||◌, IfSome, is_some, unwrap_or, replicate, slice_index_or}
+use Rattle.std.proofs.Common.{◌≡◌, ◌⊎◌, inl, inr, ℕ, zero, suc, ◌+◌, ◌*◌, ◌/◌, ◌^◌, ◌<◌, ◌≤◌, Bool, true, false, cond, not, List, [], ◌∷◌, length, Option, Some, None, refl, sym, ◌∙◌, ap, subst, arith}
+use Rattle.std.specs.Prelude.{filter, nat_eq, nat_lt, IfSome, is_some, unwrap_or, replicate, slice_index_or}
 use Rattle.std.proofs.lemmas.List.{get_or_past}
 use Rattle.std.specs.Option.{option_eq, option_map_or}
-use Rattle.std.specs.List.{list_any, range_with_len}
+use Rattle.std.specs.List.{range_with_len}
 use Rattle.std.specs.FinMap.{get}
 use Rattle.std.proofs.Math.Nat.{mul-le-mul_left, mul-le-mul_right}
-use Rattle.std.proofs.lemmas.Bool.{cases_lt, eq-eqb, eqb-true, le-leb, le-ltb, leb-true, lt-ltb, ltb-true}
+use Rattle.std.proofs.lemmas.Bool.{cases_lt, le-leb, le-ltb, leb-true, lt-ltb, ltb-true}
 use mathlib.Core.Bool.{true≢false}
 use Rattle.site_model.specs.declared.error.DeviceFault.{DeviceFault}
 use Rattle.site_model.specs.Disk.{Files, length_of}
-use Rattle.site_model.specs.Counts.{Counts, Rose, IsLater, TakesCalls}
-use Rattle.site_model.specs.Laws.Count.{takes_none, takes_on, takes_within, rose_after}
+use Rattle.site_model.specs.Counts.{Counts, Rose, IsLater}
+use Rattle.site_model.specs.Laws.Count.{takes_on, takes_within, rose_after}
 use Rattle.shard_table.specs.Table.{Row, Table, IsRow, IsTable, no_places, place_in, row_of}
 use Rattle.degraded_read.specs.Gathering.{is_reliable, reliable, rose, stands_in, standing_in}
 use Rattle.ecx_index.specs.Search.{TakesFewReads}
@@ -22,37 +22,8 @@ use Rattle.coded_volume.specs.Searching.{HasOneOf, HaveAtMost, HaveFailed, Takes
 abbrev pub is_at : ℕ → Option ℕ → Bool
 is_at server place = option_eq nat_eq place (Some server)
 
-place_is : (place : Option ℕ) (server : ℕ) → is_at server place ≡ true → place ≡ Some server
-place_is None server h = absurd (true≢false (sym h))
-place_is (Some at) server h = ap Some (eqb-true at server h)
-
-is_there : (place : Option ℕ) (server : ℕ) → place ≡ Some server → is_at server place ≡ true
-is_there place server e = ap (is_at server) e ∙ eq-eqb server server refl
-
 none_some : {A : Type 0} {x : A} → None ≡ Some x → ⊥
 none_some e = cc
-
-pub has_by : (row : Row) (shards server : ℕ) → list_any (is_at server) (take shards row) ≡ true → HasOneOf row shards server
-has_by row zero server h = absurd (true≢false (sym h))
-has_by [] (suc n) server h = absurd (true≢false (sym h))
-has_by (place ∷ row) (suc n) server h = by_test (is_at server place) refl h (has_by row n server)
-  where
-    by_test : (b : Bool) → is_at server place ≡ b → (b || list_any (is_at server) (take n row)) ≡ true → (list_any (is_at server) (take n row) ≡ true → HasOneOf row n server) → HasOneOf (place ∷ row) (suc n) server
-    by_test true p h more = (0, omega arith, place_is place server p)
-    by_test false p h more = let rest = more h in (suc rest.0, omega (arith, rest.1), rest.2)
-
-pub has_not : (row : Row) (shards server : ℕ) → list_any (is_at server) (take shards row) ≡ false → HasOneOf row shards server → ⊥
-has_not row shards server h has = at row shards has.0 h has.1 has.2
-  where
-    at : (row : Row) (n i : ℕ) → list_any (is_at server) (take n row) ≡ false → i < n → place_in row i ≡ Some server → ⊥
-    at row zero i h below e = absurd (omega arith)
-    at [] (suc n) i h below e = none_some e
-    at (place ∷ row) (suc n) zero h below e = true≢false (sym (ap (λ b. b || list_any (is_at server) (take n row)) (is_there place server e)) ∙ h)
-    at (place ∷ row) (suc n) (suc i) h below e = by_test (is_at server place) h (λ rest. at row n i rest (omega arith) e)
-      where
-        by_test : (b : Bool) → (b || list_any (is_at server) (take n row)) ≡ false → (list_any (is_at server) (take n row) ≡ false → ⊥) → ⊥
-        by_test true h more = true≢false h
-        by_test false h more = more h
 
 -- ---- counting
 
@@ -223,14 +194,6 @@ pub record HasSearched (tells : Type 0) (files : Files) (row : Row) (shards : �
   pub failed : HaveFailed row shards below old now
   pub blamed : IfSome told (λ fault. Rose (old.faults fault.server) (now.faults fault.server))
   pub none : told ≡ None → (server : ℕ) → server < below → HasOneOf row shards server → ⊥
-
-pub searched_none : (tells : Type 0) (files : Files) (row : Row) (shards : ℕ) (name : List ℕ) (counts : Counts) → HasSearched tells files row shards name 0 None counts counts
-searched_none tells files row shards name counts = record {
-  searched = λ t n most. record { reads = 0; takes = takes_within (omega arith) (omega arith) (takes_none {width = 0} counts); few = inl refl };
-  failed = λ server h. absurd (omega arith);
-  blamed = tt;
-  none = λ e server h. absurd (omega arith);
-}
 
 module _ (tells : Type 0) (files : Files) (row : Row) (shards : ℕ) (name : List ℕ) (server : ℕ) (told : Option DeviceFault) (old mid : Counts) (so_far : HasSearched tells files row shards name server told old mid) where
   -- a server without a shard

@@ -83,11 +83,6 @@ first_loaded files holders index o is loaded = record {
 }
 
 module _ (files : VolumeFiles) (holders : Holders) (info : Info) (are : AreHolders files holders) where
-  pub first_refused : (o : Option File) → files holders.first Ecx ≡ standing o → ¬ IsIndexFile o → ¬ HasOneIndex files info
-  first_refused o is none one =
-      none (index_is o (subst (λ (f : Option (List ℕ)). IsTrue (is_some f)) is (one.there holders.first are.first).1)
-      (subst (λ (f : Option (List ℕ)). IsSortedIndex (unwrap_or f [])) is (one.sorted holders.first are.first)))
-
   module _ (index : FinMap nat_cmp Entry) (has : HasFirst files holders index) where
     values_of : values index ≡ forms.entries (bytes_at files holders.first Ecx)
     values_of = ap (λ (m : FinMap nat_cmp Entry). values m) has.entries ∙ values_are (forms.entries (bytes_at files holders.first Ecx)) has.sorts.rising
@@ -112,12 +107,3 @@ module _ (files : VolumeFiles) (holders : Holders) (info : Info) (are : AreHolde
 
         as_first : (server : ℕ) → IsHolder files server → files holders.first Ecx ≡ files server Ecx
         as_first server holds = by_place server (are.all server holds)
-
--- two files that stand are the same where their bytes are
-pub other_refused : (files : VolumeFiles) (info : Info) (s t : ℕ) → IsHolder files s → IsHolder files t → files s Ecx ≢ files t Ecx → ¬ HasOneIndex files info
-other_refused files info s t first second other one = other (by_files (files s Ecx) (files t Ecx) (one.there s first).1 (one.there t second).1 (one.same s t first second))
-  where
-    by_files : (a b : Option (List ℕ)) → IsTrue (is_some a) → IsTrue (is_some b) → unwrap_or a [] ≡ unwrap_or b [] → a ≡ b
-    by_files None b stands more e = absurd (true≢false (sym stands))
-    by_files (Some a) None stands more e = absurd (true≢false (sym more))
-    by_files (Some a) (Some b) stands more e = ap Some e

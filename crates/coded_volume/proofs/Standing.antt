@@ -29,13 +29,6 @@ pub record HasServers (copies : List ShardCopy) (n first last : ℕ) (others : L
   pub all : AllWithin (λ (copy : ShardCopy). IsAmong first others copy.server) copies 0 n
   pub last_is : IsAmong first others last
 
-pub servers_none : (copies : List ShardCopy) (first : ℕ) → HasServers copies 0 first first []
-servers_none copies first = record {
-  others_have = λ k d lt. absurd (omega arith);
-  all = λ k d low lt. absurd (omega arith);
-  last_is = inl refl;
-}
-
 module _ (copies : List ShardCopy) (n first last : ℕ) (others : List ℕ) (d : ShardCopy) (fits : n < length copies) (has : HasServers copies n first last others) where
   pub servers_same : (slice_index_or copies n d).server ≡ last → HasServers copies (n + 1) first last others
   servers_same same = record {
@@ -65,15 +58,6 @@ module _ (copies : List ShardCopy) (n first last : ℕ) (others : List ℕ) (d :
 
   pub servers_else : (slice_index_or copies n d).server ≡ last → new_last ≡ last → new_others ≡ others → HasServers copies (n + 1) first new_last new_others
   servers_else same e f = subst (λ l. HasServers copies (n + 1) first l new_others) (sym e) (subst (λ (l : List ℕ). HasServers copies (n + 1) first last l) (sym f) (servers_same copies n first last others d fits has same))
-
-pub servers_all : (copies : List ShardCopy) (n first last : ℕ) (others : List ℕ) (holders : Holders) (d : ShardCopy) → 0 < length copies → length copies ≤ n → HasServers copies n first last others
-    → first ≡ (slice_index_or copies 0 d).server → holders.first ≡ first → holders.others.items ≡ others → AreServersOf copies holders
-servers_all copies n first last others holders d some end has at same_first same_others = record {
-  first = λ e. ap (λ (copy : ShardCopy). copy.server) (get_or_default copies 0 e d some) ∙ sym at ∙ sym same_first;
-  others = subst (λ (l : List ℕ). All (λ server. Any (λ (copy : ShardCopy). copy.server ≡ server) copies) l) (sym same_others) has.others_have;
-  all = subst (λ f. All (λ (copy : ShardCopy). (copy.server ≡ f) ⊎ Contains holders.others.items copy.server) copies) (sym same_first)
-      (subst (λ (l : List ℕ). All (λ (copy : ShardCopy). (copy.server ≡ first) ⊎ Contains l copy.server) copies) (sym same_others) (λ k e lt. has.all k e (omega arith) (omega arith)));
-}
 
 -- ---- the holders
 

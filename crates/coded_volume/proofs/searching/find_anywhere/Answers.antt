@@ -1,8 +1,8 @@
-use Rattle.std.proofs.Common.{◌≡◌, ◌+◌, ◌/◌, ◌<◌, Some, refl, sym, ◌∙◌, subst, arith}
+use Rattle.std.proofs.Common.{◌+◌, ◌/◌, ◌<◌, Some, refl, sym, ◌∙◌, subst, arith}
 use Rattle.std.specs.Prelude.{IsTrue}
 use Rattle.site_model.specs.declared.error.DeviceFault.{DeviceFault}
 use Rattle.site_model.specs.Disk.{Disk, length_of}
-use Rattle.site_model.specs.Laws.Count.{calls_anywhere, calls_nowhere, calls_on_anywhere, calls_untold}
+use Rattle.site_model.specs.Laws.Count.{calls_anywhere, calls_on_anywhere, calls_untold}
 use Rattle.shard_table.specs.Table.{row_of}
 use Rattle.ecx_index.specs.Search.{TakesFewReads}
 use Rattle.coded_volume.proofs.Searches.{HasSearched, below_all_stand, none_reliable, place_within, searched_here, searched_more, searched_on, searched_past, some_told}

@@ -1,11 +1,9 @@
-use Rattle.std.proofs.Common.{◌≡◌, ◌+◌, ◌*◌, ◌≤◌, List, length, take, drop, refl, sym, ◌∙◌, ap, subst, arith}
+use Rattle.std.proofs.Common.{◌≡◌, ◌+◌, ◌*◌, length, sym, ◌∙◌, ap, subst}
 use Rattle.std.specs.Prelude.{IsTrue}
 use Rattle.std.proofs.lemmas.Result.{err_from_is_err_and}
-use Rattle.volume_forms.specs.Kept.{entry_end}
 use Rattle.shard_table.specs.Table.{row_of}
 use Rattle.degraded_read.specs.Reading.{HasPlaces, NoneRose}
 use Rattle.degraded_read.specs.Ranges.{GivesRange}
-use Rattle.dat_volume.specs.Reading.{front_damage}
 use Rattle.coded_volume.specs.Reading.{IsFront}
 use Rattle.coded_volume.proofs.Faults.{front_is, other_header, past_end, read_same, taken_back}
 use Rattle.coded_volume.proofs.volume.CodedVolume.front_at.Goals as goal

@@ -1,4 +1,4 @@
-use Rattle.std.proofs.Common.{◌≡◌, ℕ, length, subst, ◌∙◌}
+use Rattle.std.proofs.Common.{length, subst, ◌∙◌}
 use Rattle.std.specs.Prelude.{IsTrue}
 use Rattle.shard_table.specs.Table.{row_of}
 use Rattle.dat_volume.proofs.Faults.{given_fault}

@@ -1,4 +1,4 @@
-use Rattle.std.proofs.Common.{◌≡◌, Bool, sym, ◌∙◌, ap}
+use Rattle.std.proofs.Common.{Bool, sym, ◌∙◌, ap}
 use Rattle.std.specs.Prelude.{◌||◌}
 use Rattle.file_names.specs.declared.Kind.TheVariants.{Cpx}
 use Rattle.site_mem.specs.Site.{disk_at}

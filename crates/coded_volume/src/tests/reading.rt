@@ -6,6 +6,7 @@ ghost use Rattle.shard_table.specs.Table.{IsAdded, row_of};
 ghost use Rattle.degraded_read.specs.Gathering.{standing_in};
 ghost use Rattle.degraded_read.specs.Reading.{ArePlaced};
 
+mod many;
 mod standing;
 
 use super::{VOLUME, info};

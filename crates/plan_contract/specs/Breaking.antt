@@ -123,4 +123,4 @@ module _ (r : Running) (row : Row) (start now : Share) (follows : Follows r row 
       (subst (λ d. AreRecords r.place (drop r.place d) (drop (index_state.0.length / 16) (records (joined follows.f.parts)))) (sym data_is)
       (subst (λ m. AreRecords m (drop m (joined follows.f.parts)) (drop (index_state.0.length / 16) (records (joined follows.f.parts)))) (sym place)
       (subst (λ l. AreRecords (end_of (take (index_state.0.length / 16) (records (joined follows.f.parts)))) l (drop (index_state.0.length / 16) (records (joined follows.f.parts))))
-        (drop-drop (end_of (take (index_state.0.length / 16) (records (joined follows.f.parts))) - 8) 8 (joined follows.f.parts) ∙ ap (λ m. drop m (joined follows.f.parts)) far) behind.are)))
+      (drop-drop (end_of (take (index_state.0.length / 16) (records (joined follows.f.parts))) - 8) 8 (joined follows.f.parts) ∙ ap (λ m. drop m (joined follows.f.parts)) far) behind.are)))

@@ -69,9 +69,17 @@ module _ (r : Running) (row : Row) (servers : ℕ) (is : IsPlan r.plan servers) 
       by_goes : (j : ℕ) → j < way.reached.0 → HasIndexBefore r.plan (list_of r.plan) j ⊎ IsElsewhereBefore r.plan (list_of r.plan) j server i → (s : ℕ) × HasFile r.plan r.states s (Shard i)
       by_goes j before (inl (s, below, (k, less, at, new))) = absurd (no_index k s at)
       by_goes j before (inr (other, apart, below, short, (k, less, at, new))) =
-          let here = named_at (λ (s : FileState). (s.server, s.kind)) r.states k (other, Shard i) (ap (λ (names : Names). slice_get names k) way.listed ∙ at) in
-          (other, inl (k, here.0, here.1, ap (λ (p : ℕ × Kind). p.0) here.2, ap (λ (p : ℕ × Kind). p.1) here.2,
-            way.reached.1.written k here.0 here.1 (omega (arith, less, before)) (subst (λ (p : ℕ × Kind). is_found r.plan r.plan.command p.0 p.1 ≡ false) (sym here.2) new)))
+          let here = named_at (λ (s : FileState). (s.server, s.kind)) r.states k (other, Shard i) (ap (λ (names : Names). slice_get names k) way.listed ∙ at) in (
+            other,
+            inl (
+              k,
+              here.0,
+              here.1,
+              ap (λ (p : ℕ × Kind). p.0) here.2,
+              ap (λ (p : ℕ × Kind). p.1) here.2,
+              way.reached.1.written k here.0 here.1 (omega (arith, less, before)) (subst (λ (p : ℕ × Kind). is_found r.plan r.plan.command p.0 p.1 ≡ false) (sym here.2) new),
+            ),
+          )
 
       by_place : (j : ℕ) (s : FileState) → slice_get r.states j ≡ Some s → s.server ≡ server → s.kind ≡ Shard i → (j < way.reached.0) ⊎ (way.reached.0 ≤ j) → (s : ℕ) × HasFile r.plan r.states s (Shard i)
       by_place j s at a b (inl before) = by_goes j before (list_goes r.plan servers is j server (Shard i)

@@ -49,8 +49,8 @@ none_behind front x y k e = omega (arith, (get_front (front ++ x ∷ []) [] k y 
 
 last_data : (texts indexes shards : Names) (a b : ℕ × Kind) → texts ++ (indexes ++ (shards ++ (a ∷ b ∷ []))) ≡ (texts ++ (indexes ++ (shards ++ a ∷ []))) ++ b ∷ []
 last_data texts indexes shards a b = sym (
-  append_assoc texts (indexes ++ (shards ++ a ∷ [])) (b ∷ [])
-  ∙ ap (λ names. texts ++ names) (append_assoc indexes (shards ++ a ∷ []) (b ∷ []) ∙ ap (λ names. indexes ++ names) (append_assoc shards (a ∷ []) (b ∷ []))))
+    append_assoc texts (indexes ++ (shards ++ a ∷ [])) (b ∷ [])
+    ∙ ap (λ names. texts ++ names) (append_assoc indexes (shards ++ a ∷ []) (b ∷ []) ∙ ap (λ names. indexes ++ names) (append_assoc shards (a ∷ []) (b ∷ []))))
 
 module _ (r : Running) (row : Row) (start now : Share) (follows : Follows r row start now) where
   abbrev states : List FileState

@@ -136,10 +136,18 @@ module _ (r : Running) (row : Row) (start now : Share) (follows : Follows r row 
       neither (inr e) = cc
 
       by_place : (k : ℕ) (x : FileState) → slice_get states k ≡ Some x → x.server ≡ server → x.kind ≡ Shard i → x.stage ≡ Registered → IsFound r.plan server (Shard i) ⊎ IsNew r.plan server (Shard i) → IsWaiting server i
-      by_place k x at a b stage (inl found) = (k, x, at, a, b, found, ⊎_elim
-          (λ less. absurd (two_stages (sym stage ∙ follows.fits.way.reached.1.removed k x at less (found_at x server (Shard i) a b found))))
-          (λ more. more)
-          (cases_lt k reached_at))
+      by_place k x at a b stage (inl found) = (
+        k,
+        x,
+        at,
+        a,
+        b,
+        found,
+        ⊎_elim
+            (λ less. absurd (two_stages (sym stage ∙ follows.fits.way.reached.1.removed k x at less (found_at x server (Shard i) a b found))))
+            (λ more. more)
+            (cases_lt k reached_at),
+      )
       by_place k x at a b stage (inr new) = absurd (neither (new_listed r.plan decode server (Shard i)
           (at_has (list_of r.plan) k (server, Shard i) (ap (λ names. slice_get names k) (sym follows.fits.way.listed) ∙ name_at (λ (s : FileState). (s.server, s.kind)) states k x at ∙ (λ i. Some (a i, b i)))) new).1)
 
@@ -181,11 +189,11 @@ module _ (r : Running) (row : Row) (start now : Share) (follows : Follows r row 
   left_stays : (server i : ℕ) → server < max_servers → IsWaiting server i → (kind : Kind) → IsLeftKind kind → finals now server kind ≡ finals start server kind
   left_stays server i below (k, x, at, a, b, found, waits) kind is =
       let has : Has lefts (server, kind) = has_flat left_names (filter (held r.plan) all_servers) server (server, kind)
-        (has_filter (held r.plan) all_servers server (has_range 0 max_servers server (omega arith) (omega (arith, below))) (held_of server i found)) (left_has server kind is) in
+      (has_filter (held r.plan) all_servers server (has_range 0 max_servers server (omega arith) (omega (arith, below))) (held_of server i found)) (left_has server kind is) in
       let there = has_at lefts (server, kind) has in
       let here = state_of (suc (suc (length shards + there.0))) server kind (get_behind shards lefts there.0 ∙ there.1) in
       found_stays (suc (suc (length shards + there.0))) here.0 server kind here.1 (ap (λ (p : ℕ × Kind). p.0) here.2) (ap (λ (p : ℕ × Kind). p.1) here.2) (found_left is)
-        (omega (arith, waits, shard_before k server i (name_is k x at ∙ (λ i. Some (a i, b i)))))
+      (omega (arith, waits, shard_before k server i (name_is k x at ∙ (λ i. Some (a i, b i)))))
     where
       found_left : IsLeftKind kind → IsFound r.plan server kind
       found_left (inl e) = ap (is_found r.plan r.plan.command server) e ∙ finds r.plan decode server Ecx ∙ held_of server i found
@@ -199,7 +207,7 @@ module _ (r : Running) (row : Row) (start now : Share) (follows : Follows r row 
         let waits = shard_waits server i h st in
         let found : IsFound r.plan server (Shard i) = waits.5 in (
           beside_same follows.f.parts (finals start) (finals now) server (left_stays server i st.0 waits Vif (inr (inr refl))) (left_stays server i st.0 waits Ecx (inl refl)) (left_stays server i st.0 waits Ecj (inr (inl refl)))
-            (follows.fits.begins.finds.beside server (finds r.plan decode server Vif ∙ held_of server i found)),
+              (follows.fits.begins.finds.beside server (finds r.plan decode server Vif ∙ held_of server i found)),
           follows.fits.begins.finds.shards server i h found ∙ sym (found_stays waits.0 waits.1 server (Shard i) waits.2 waits.3 waits.4 found waits.6),
         );
   }
@@ -294,7 +302,7 @@ module _ (r : Running) (row : Row) (start now : Share) (follows : Follows r row 
       let new : IsNew r.plan here.0.server here.0.kind = subst (λ (p : ℕ × Kind). IsNew r.plan p.0 p.1) (λ i. (sym a i, sym b i)) data_new in
       let stands : StandsBy Registered here.0.length (given r.plan follows.f.parts start here.0.server here.0.kind) (now here.0.server here.0.kind false) (now here.0.server here.0.kind true) =
       subst (λ stage. StandsBy stage here.0.length (given r.plan follows.f.parts start here.0.server here.0.kind) (now here.0.server here.0.kind false) (now here.0.server here.0.kind true))
-        (follows.fits.way.reached.1.written 0 here.0 here.1 some new) (follows.fits.fits.each 0 here.0 here.1) in
+      (follows.fits.way.reached.1.written 0 here.0 here.1 some new) (follows.fits.fits.each 0 here.0 here.1) in
       (λ i. finals now (sym a i) (sym b i))
       ∙ ap disk.standing (stands.0 ∙ given_new r.plan follows.f.parts start here.0.server here.0.kind new)
       ∙ standing_firm (planned follows.f.parts here.0.kind) ∙ ap (planned follows.f.parts) b

@@ -59,7 +59,7 @@ module _ (r : PlannedRun) (row : Row) (old new : Disk) (tried : TriesStep r.run 
     fewer : IsInBounds r.run.plan r.run.states r.run.place → running.IsOnItsWay r.run row → next_step r.run.plan r.run.states r.run.place ≡ Some step → left_of s.plan s.states s.place < left_of r.run.plan r.run.states r.run.place
     fewer bounds way due = subst (λ p. left_of p s.states s.place < left_of r.run.plan r.run.states r.run.place) (sym took.same_plan)
         (left_falls r.run.plan r.run.states s.states r.run.place s.place step
-          (record { sized = plan_sized r.run.plan r.servers r.is; listed = way.listed; apart = way.apart; reached = way.reached; short = bounds.short }) due took.after)
+        (record { sized = plan_sized r.run.plan r.servers r.is; listed = way.listed; apart = way.apart; reached = way.reached; short = bounds.short }) due took.after)
 
     left_by : (o : Option Step) → next_step s.plan s.states s.place ≡ o → left_of s.plan s.states s.place < left_of r.run.plan r.run.states r.run.place
         → IsLeft 1 (not (is_some o)) (left_of r.run.plan r.run.states r.run.place) (left_of s.plan s.states s.place)

@@ -1,5 +1,4 @@
 -- The list of a rebuild or a balance, and where it takes the shards.
--- What nothing cites yet is for `plan_mend`, to come.
 use Rattle.std.proofs.Common.{◌≡◌, ◌≢◌, ◌⊎◌, inl, inr, ⊎_elim, ℕ, zero, suc, ◌+◌, ◌<◌, ◌≤◌, Bool, true, false, cond, List, [], ◌∷◌, ◌++◌, length, map, Option, Some, None, is_some, refl, sym, ◌∙◌, ap, subst, arith}
 use Rattle.std.specs.Prelude.{◌||◌, ◌&&◌, ◌==◌, not, if◌then◌else◌, filter, flat_map}
 use Rattle.std.specs.List.{list_any, range_with_len}

@@ -1,5 +1,5 @@
 -- A plan's list when it begins is that of its command, and begins its progress.
--- The last laws are for `plan_code` and `plan_mend`, to come.
+-- The last laws are for `plan_code` and `plan_mend`.
 use Rattle.std.proofs.Common.{◌≡◌, ℕ, zero, suc, ◌+◌, ◌<◌, Bool, true, false, List, [], ◌∷◌, ◌++◌, length, map, take, get_or, refl, sym, ◌∙◌, ap, append_assoc, arith}
 use Rattle.std.specs.Prelude.{◌==◌, ◌||◌, if◌then◌else◌, filter, flat_map, slice_get}
 use Rattle.std.specs.List.{list_any}

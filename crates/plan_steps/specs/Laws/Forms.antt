@@ -1,5 +1,5 @@
 -- The two forms of a volume mean the same: of an encode, which deletes nothing, and of a decode, which writes the
--- deletions behind the data file. For `plan_code` and `plan_mend`, to come.
+-- deletions behind the data file. For `plan_code` and `plan_mend`.
 use Rattle.std.proofs.Common.{inr, ◌≡◌, ℕ, ◌+◌, ◌*◌, ◌<◌, ◌≤◌, ◌^◌, Bool, true, false, cond, List, [], ◌∷◌, ◌++◌, length, map, Option, None, refl, sym, ◌∙◌, ap, subst, arith, append_assoc, length-append}
 use Rattle.std.specs.Prelude.{◌||◌, not, nat_eq, flat_map, IfSome}
 use Rattle.std.specs.List.{list_any, AllByRecursion, IsDistinct}

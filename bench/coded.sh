@@ -6,9 +6,10 @@
 # Proves and builds crates/coded_bench and crates/kernel_bench, lets weed, or the PROGRAM, write a volume of 4 KiB needles in
 # memory, and runs the two in turn, with all shards and with one server's folder taken away: at four servers, so that three of the
 # ten data shards are missing. Tells the processor's time of a get (user and system, medians over the rounds) and the ratio
-# (median of those within rounds). Then the reads, at fourteen servers, with nothing missing and without the first shard,
-# beside the kernel's restoring of one: as bytes that are read from shards a second. Needs python3 and rt. CORE names the
-# processor that is used; with PRIORITY=50, as root, no other program runs there meanwhile.
+# (median of those within rounds). Then reads of the data file in ranges of 4 MiB, at fourteen servers, with nothing missing
+# and without the first shard: the bytes a second that are answered and that are read from shards, the latter's ratio to
+# the kernel's restoring of one, and what such reads and the kernel take apart, to the whole. Needs gcc, python3 and rt. CORE
+# names the processor that is used; with PRIORITY=50, as root, no other program runs there meanwhile.
 set -eu
 here=$(cd "$(dirname "$0")/.." && pwd)
 peer=$(realpath "$1")
@@ -96,18 +97,32 @@ def from_first(size):
     return sum(min(BLOCK, size - start) for start in range(0, size, DATA * BLOCK))
 
 
-def compare_reads(what, store, size, read):
-    """Reads of the data file, for each of which so many bytes are read from shards."""
-    answered, fast, ratios = [], [], []
+def reads(store, size):
+    """The speeds of reading the data file and of the kernel, in megabytes a second, by round."""
+    answered, kernel = [], []
     for _ in range(rounds):
         text = tell(f"{work}/coded_bench", "ranges", "7", str(TURNS), folder=store)
         if number(r"bytes (\d+)", text) != TURNS * size:
             sys.exit(f"other bytes were read: {text}")
         answered.append(number(r"(\d+) MB/s", text))
-        fast.append(number(r"restore_one_10\+4 (\d+) MB/s", tell(f"{work}/kernel_bench", "time")))
-        ratios.append(answered[-1] * read / size / fast[-1])
-    speed, kernel = statistics.median(answered), statistics.median(fast)
-    print(f"| {what} | {speed:.0f} | {speed * read / size:.0f} | {kernel:.0f} | {statistics.median(ratios):.2f} |", flush=True)
+        kernel.append(number(r"restore_one_10\+4 (\d+) MB/s", tell(f"{work}/kernel_bench", "time")))
+    return answered, kernel
+
+
+def compare_reads(store, size):
+    """Reads with nothing missing, and without the first shard, whose bytes are made of ten others."""
+    whole, _ = reads(store, size)
+    shutil.rmtree(f"{store}/s00")
+    mended, kernel = reads(store, size)
+    lost = from_first(size)
+    plain = statistics.median(whole)
+    read = size + (DATA - 1) * lost
+    to_kernel = statistics.median(speed * read / size / fast for speed, fast in zip(mended, kernel))
+    apart = statistics.median((read / plain + DATA * lost / fast) / (size / speed) for speed, fast in zip(mended, kernel))
+    speed = statistics.median(mended)
+    print(f"| nothing missing | {plain:.0f} | {plain:.0f} | | |")
+    print(f"| the first shard missing | {speed:.0f} | {speed * read / size:.0f} | {to_kernel:.2f} | {apart:.2f} |")
+    print(f"\nThe kernel alone reads {statistics.median(kernel):.0f} MB/s of shards.")
 
 
 store, size = make(4)
@@ -118,9 +133,7 @@ shutil.rmtree(f"{store}/s00")
 compare_gets("one server of four missing", store)
 shutil.rmtree(store)
 store, size = make(14)
-print("\n| read of the data file | MB/s | of shards, MB/s | the kernel, MB/s | ratio |")
+print("\n| read of the data file | MB/s | of shards, MB/s | to the kernel | reads and kernel apart, to both |")
 print("|---|---|---|---|---|")
-compare_reads("nothing missing", store, size, size)
-shutil.rmtree(f"{store}/s00")
-compare_reads("the first shard missing", store, size, size + (DATA - 1) * from_first(size))
+compare_reads(store, size)
 PY

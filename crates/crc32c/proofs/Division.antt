@@ -199,3 +199,9 @@ checksum-is bytes h =
     ∙ steps_over bits 0xFFFFFFFF zeros (omega arith) ∙ ap (λ s. add_at_front (low_bits 32 s) zeros) (fed_bytes bytes 0xFFFFFFFF h)
     ∙ on_zeros 32 r in
     ap (λ rest. number_of_bits (map not rest)) all ∙ inverted 32 r (register-lt bytes 0xFFFFFFFF (omega arith) h)
+
+-- bytes behind bytes
+pub bytes_on : (front bytes : List ℕ) → ((k : ℕ) → get_or front k 0 < 256) → ((k : ℕ) → get_or bytes k 0 < 256) → (k : ℕ) → get_or (front ++ bytes) k 0 < 256
+bytes_on [] bytes h g k = g k
+bytes_on (b ∷ front) bytes h g zero = h 0
+bytes_on (b ∷ front) bytes h g (suc k) = bytes_on front bytes (λ n. h (suc n)) g k

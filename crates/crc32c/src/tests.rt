@@ -11,6 +11,12 @@ fn known_checksums(rt: HostRuntime) {
 }
 
 #[test]
+fn a_sum_goes_on(rt: HostRuntime) {
+    assert_eq!(rt; crc_on(crc(b"1234"), b"56789"), 0xe306_9283);
+    assert_eq!(rt; crc_on(0, &[0; 32]), 0x8a91_36aa);
+}
+
+#[test]
 fn a_checksum_is_masked(rt: HostRuntime) {
     assert_eq!(rt; masked(0xe306_9283), 0xc78a_b0e5);
 }

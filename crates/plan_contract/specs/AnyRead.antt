@@ -12,7 +12,7 @@ use Rattle.plan_steps.specs.Reading.{IsGoing, IsRead, LeavesEnough}
 use Rattle.plan_contract.specs.Following.{told, made_records}
 use Rattle.plan_contract.specs.Read.{reads_data, reads_shards}
 use Rattle.plan_contract.specs.ReadDecode.{reads_decode}
-use Rattle.plan_contract.specs.Enough.{leaves_enough}
+use Rattle.plan_steps.specs.Laws.Enough.{leaves_enough}
 
 -- The volume is read as it was.
 pub reads_told : (r : Running) (row : Row) (start now : Share) → Follows r row start now → IsGoing r.plan.command (left_of r.plan r.states r.place) → IsRead r.plan.command (told r.plan) (made_records r.plan start) row (finals start) (finals now)

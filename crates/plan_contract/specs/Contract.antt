@@ -20,7 +20,8 @@ use Rattle.plan_steps.specs.AnyPlans.{Plans}
 use Rattle.plan_contract.specs.Following.{told, bound, underway, firm}
 use Rattle.plan_contract.specs.Ended.{ends_told}
 use Rattle.plan_contract.specs.AnyRead.{reads_told, enough_told}
-use Rattle.plan_contract.specs.Breaking as broken
+use Rattle.plan_steps.specs.Breaking as breaking
+use Rattle.plan_steps.specs.Laws.Breaking as broken
 
 -- a plan that runs, on so many servers
 pub record PlannedRun : Type 0 where
@@ -61,7 +62,7 @@ plans = record {
   IsPlan = λ r servers. which.IsPlan r.run.plan servers;
   IsOnItsWay = λ r row. running.IsOnItsWay r.run row;
   StandsAsTold = λ r now. by_name.StandsAsTold r.run.plan r.run.states now;
-  BreaksOff = λ r now. broken.BreaksOff r.run now;
+  BreaksOff = λ r now. breaking.BreaksOff r.run now;
   Follows = λ r row start now. running.Follows r.run row start now;
   on_its_way = λ r row start now follows. follows.fits.way;
   told = λ r row start now follows. told_fits follows.w follows.f r.run row start now follows.fits;

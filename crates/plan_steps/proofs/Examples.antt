@@ -1,8 +1,8 @@
 -- What the definitions of plans refuse and what they admit, by small examples.
-use Rattle.std.proofs.Common.{◌≡◌, ◌≢◌, ◌⊎◌, inl, inr, ⊎_elim, ℕ, suc, ◌+◌, ◌%◌, ◌<◌, ◌≤◌, Bool, true, false, cond, List, [], ◌∷◌, ◌++◌, length, map, Option, Some, None, is_some, IsTrue, refl, sym, ◌∙◌, ap, subst, arith, length-append}
-use Rattle.std.specs.Prelude.{◌==◌, ◌&&◌, filter, flat_map, if◌then◌else◌, option_map}
+use Rattle.std.proofs.Common.{◌≡◌, ◌≢◌, ◌⊎◌, inl, inr, ℕ, ◌+◌, ◌%◌, ◌<◌, true, false, List, [], ◌∷◌, ◌++◌, length, map, Option, Some, None, is_some, IsTrue, refl, sym, ◌∙◌, ap, subst, arith, length-append}
+use Rattle.std.specs.Prelude.{◌==◌, filter, flat_map, if◌then◌else◌, option_map}
 use Rattle.std.specs.List.{list_any, range_with_len}
-use Rattle.std.proofs.lemmas.Bool.{cases_eq, ne_eqb}
+use Rattle.std.proofs.lemmas.Bool.{ne_eqb}
 use Rattle.image_meaning.specs.Laws.Options.{some_is}
 use mathlib.Core.Bool.{true≢false}
 use Rattle.site_model.specs.Disk.{File, IsFirm, Disk}
@@ -13,7 +13,7 @@ use Rattle.world_model.specs.declared.types.Command.TheVariants.{Encode, Rebuild
 use Rattle.world_model.specs.declared.types.Ratio.TheVariants.{TenFour}
 use Rattle.file_names.specs.declared.Kind.{Kind}
 use Rattle.file_names.specs.declared.Kind.TheVariants.{Dat, Idx, Cpx, Shard, Ecx, Vif}
-use Rattle.file_names.specs.Names.{IsKind, max_shards}
+use Rattle.file_names.specs.Names.{max_shards}
 use Rattle.volume_forms.specs.Forms.{entry_bytes, has_super}
 use Rattle.needle_record.specs.Records.{records}
 use Rattle.shard_table.specs.Table.{Row}
@@ -27,7 +27,6 @@ use Rattle.image_meaning.specs.Meaning.{max_volumes}
 use Rattle.image_meaning.specs.Parts.{Parts}
 use Rattle.image_meaning.specs.Share.{Share, share_of, finals, temps, IsFirmShare}
 use Rattle.plan_steps.specs.declared.plan.Plan.{Plan}
-use Rattle.plan_steps.specs.declared.plan.FileState.{FileState}
 use Rattle.plan_steps.specs.Kept.{Forms, AreForms, HasAForm}
 use Rattle.plan_steps.specs.Laws.Kept.{kept_none_made}
 use Rattle.plan_steps.specs.Planned.{is_encode}

@@ -1,4 +1,4 @@
 mod Examples
-mod LeftRows
+mod LeftExamples
 pub mod Walked
 pub mod Rows

@@ -1,5 +1,5 @@
 -- How far the rows of large blocks go, and that quotients are no greater.
-use Rattle.std.proofs.Common.{◌≡◌, ℕ, ◌+◌, ◌*◌, ◌/◌, ◌^◌, ◌<◌, ◌≤◌, subst, arith}
+use Rattle.std.proofs.Common.{ℕ, ◌*◌, ◌/◌, ◌<◌, ◌≤◌, arith}
 use Rattle.std.proofs.Math.Nat.{div-le_self, mul-le-mul_right, mul-le-mul_left, mul_left_comm}
 use Rattle.world_model.specs.Ratios.{data_count-some}
 use Rattle.stripe_layout.specs.declared.Geometry.{Geometry}

@@ -1,7 +1,6 @@
 -- What stands at the end of a decode: the data file and the index at the home, and nothing else.
-use Rattle.std.proofs.Common.{◌≡◌, ◌≢◌, ◌⊎◌, inl, inr, ⊎_elim, ℕ, ◌<◌, ◌≤◌, Bool, true, false, List, [], ◌∷◌, ◌++◌, map, Option, Some, None, is_some, IsTrue, refl, sym, ◌∙◌, ap, subst, arith}
+use Rattle.std.proofs.Common.{◌≡◌, ◌≢◌, ◌⊎◌, inl, inr, ⊎_elim, ℕ, ◌<◌, true, false, List, ◌++◌, None, is_some, IsTrue, refl, sym, ◌∙◌, ap, subst, arith}
 use Rattle.std.specs.Prelude.{◌==◌, ◌&&◌, filter, flat_map}
-use Rattle.std.specs.List.{list_any}
 use mathlib.Core.Bool.{true≢false}
 use Rattle.std.proofs.lemmas.Bool.{and_parts, eqb-true, eq-eqb}
 use Rattle.world_model.specs.World.{Volume}
@@ -10,21 +9,20 @@ use Rattle.file_names.specs.declared.Kind.{Kind}
 use Rattle.file_names.specs.declared.Kind.TheVariants.{Dat, Idx, Cpd, Cpx, Shard, Ecx, Ecj, Vif}
 use Rattle.file_names.specs.Names.{IsKind, max_shards}
 use Rattle.volume_forms.specs.Forms.{has_super}
-use Rattle.needle_record.specs.Records.{Placed, records}
+use Rattle.needle_record.specs.Records.{records}
 use Rattle.shard_table.specs.Table.{Row, place_in}
-use Rattle.image_meaning.specs.Files.{VolumeFiles, all_servers, has_index, stands, lowest}
+use Rattle.image_meaning.specs.Files.{VolumeFiles, all_servers, has_index}
 use Rattle.site_model.specs.Counts.{max_servers}
-use Rattle.image_meaning.specs.Plain.{IsExact, index_home}
+use Rattle.image_meaning.specs.Plain.{IsExact}
 use Rattle.image_meaning.specs.Coded.{dat_of}
-use Rattle.image_meaning.specs.Sound.{Stands}
 use Rattle.image_meaning.specs.Laws.Plain.{IsAlone, lowest-all_fail}
 use Rattle.image_meaning.specs.Laws.Part.{made_dat}
 use Rattle.image_meaning.specs.HeldParts.{held_made}
 use Rattle.image_meaning.specs.Laws.Servers.{lowest-some}
 use Rattle.image_meaning.specs.Laws.Views.{index_named}
-use Rattle.image_meaning.specs.Share.{Share, finals, temps}
+use Rattle.image_meaning.specs.Share.{Share, finals}
 use Rattle.plan_steps.specs.declared.plan.Plan.{Plan}
-use Rattle.plan_steps.specs.Kept.{Forms, HasAForm, IsKeptCoded}
+use Rattle.plan_steps.specs.Kept.{Forms, IsKeptCoded}
 use Rattle.plan_steps.specs.Laws.Kept.{coded_where}
 use Rattle.plan_steps.specs.Planned.{deletions, joined, joined_index, held, placed, is_at, is_found, is_found_coded}
 use Rattle.plan_steps.specs.Legal.{IsFound, IsNew, BeginsPlan}

@@ -1,8 +1,7 @@
 -- What stands at the end of an encode: all shards, each once, with a text and an index beside them, and nothing else.
-use Rattle.std.proofs.Common.{◌≡◌, ◌≢◌, ◌⊎◌, inl, inr, ⊎_elim, ℕ, ◌+◌, ◌%◌, ◌<◌, ◌≤◌, Bool, true, false, List, [], ◌∷◌, ◌++◌, length, map, Option, Some, None, is_some, IsTrue, refl, sym, ◌∙◌, ap, subst, arith}
-use Rattle.std.specs.Prelude.{◌==◌, ◌&&◌, nat_lt, filter, flat_map, slice_get, unwrap_or}
+use Rattle.std.proofs.Common.{◌≡◌, ◌≢◌, ◌⊎◌, inl, inr, ⊎_elim, ℕ, ◌+◌, ◌%◌, ◌<◌, ◌≤◌, true, false, List, [], ◌∷◌, ◌++◌, map, Option, None, is_some, IsTrue, refl, sym, ◌∙◌, ap, subst, arith}
+use Rattle.std.specs.Prelude.{◌==◌, nat_lt, filter, unwrap_or}
 use Rattle.std.proofs.Math.Nat.{mod-lt}
-use Rattle.std.specs.List.{list_any, range_with_len}
 use mathlib.Core.Bool.{true≢false}
 use Rattle.std.proofs.lemmas.Bool.{and_parts, and_from, eqb-true, eq-eqb, lt-ltb, ltb-true}
 use Rattle.wire_num.specs.Pairs.{pairs, pairs_within, journal_bytes}
@@ -16,10 +15,9 @@ use Rattle.file_names.specs.Names.{IsKind, max_shards}
 use Rattle.stripe_layout.specs.declared.Info.{Info}
 use Rattle.stripe_layout.specs.Stripes.{shards_in_all}
 use Rattle.shard_table.specs.Table.{Row, place_in}
-use Rattle.image_meaning.specs.Files.{VolumeFiles, all_servers, has_index, stands, bytes_at, is_holder, shard_home}
+use Rattle.image_meaning.specs.Files.{all_servers, has_index, stands, bytes_at, is_holder, shard_home}
 use Rattle.site_model.specs.Counts.{max_servers}
-use Rattle.image_meaning.specs.Plain.{index_home}
-use Rattle.image_meaning.specs.Coded.{deleted_at, ratio_of}
+use Rattle.image_meaning.specs.Coded.{deleted_at}
 use Rattle.image_meaning.specs.Sound.{Stands, IsHolder}
 use Rattle.image_meaning.specs.Ends.{IsTidyCoded, IsWhole, IsEven}
 use Rattle.image_meaning.specs.Laws.Plain.{lowest-all_fail}
@@ -27,17 +25,17 @@ use Rattle.image_meaning.specs.Laws.Part.{made_coded, made_ratio}
 use Rattle.image_meaning.specs.HeldParts.{held_made}
 use Rattle.image_meaning.specs.Laws.CodedLoss.{any_range}
 use Rattle.image_meaning.specs.Laws.Views.{index_named}
-use Rattle.image_meaning.specs.Share.{Share, finals, temps}
+use Rattle.image_meaning.specs.Share.{Share, finals}
 use Rattle.plan_steps.specs.declared.plan.Plan.{Plan}
 use Rattle.plan_steps.specs.Kept.{Forms, IsKeptCoded}
 use Rattle.plan_steps.specs.Laws.Kept.{coded_where}
-use Rattle.plan_steps.specs.Planned.{is_encode, is_found_plain, planned}
+use Rattle.plan_steps.specs.Planned.{is_encode, is_found_plain}
 use Rattle.plan_steps.specs.Laws.Found.{encode_finds}
 use Rattle.plan_steps.specs.Legal.{IsFound, IsNew}
 use Rattle.plan_steps.specs.Laws.Legal.{some_at}
 use Rattle.plan_steps.specs.Lists.{is_target, shard_names, encode_names, list_by, list_of}
 use Rattle.plan_steps.specs.Plans.{all_numbers, IsEncodePlan}
-use Rattle.plan_steps.specs.Members.{Has, has_left, has_right, has_either, has_map, map_has, has_filter, filter_has, has_range, range_has, any_has}
+use Rattle.plan_steps.specs.Members.{Has, has_left, has_right, has_either, has_map, map_has, filter_has, has_range, range_has, any_has}
 use Rattle.plan_steps.specs.Laws.Round.{bool_same, bit_most, count_same, round_test, round_counts}
 use Rattle.plan_steps.specs.Laws.End.{IsOver, end_new, end_stands, end_none, row_homes}
 use Rattle.plan_steps.specs.Progressing.{Running, FitsProgress}

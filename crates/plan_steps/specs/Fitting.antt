@@ -1,5 +1,5 @@
 -- When the files of a volume fit how far a plan has come.
-use Rattle.std.specs.Prelude.{◌≡◌, ℕ, ◌<◌, ◌≤◌, Bool, true, false, List, length, take, slice_get, Option, Some, None}
+use Rattle.std.specs.Prelude.{◌≡◌, ℕ, ◌<◌, ◌≤◌, true, false, List, length, take, slice_get, Option, Some, None}
 use Rattle.site_model.specs.Disk.{File, firm_file}
 use Rattle.file_names.specs.declared.Kind.{Kind}
 use Rattle.file_names.specs.Names.{IsKind}

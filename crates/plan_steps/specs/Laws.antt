@@ -42,3 +42,5 @@ pub mod Due
 pub mod Complete
 pub mod Places
 pub mod DataFile
+pub mod Enough
+pub mod Breaking

@@ -1,7 +1,7 @@
 -- Each step that a plan gives is legal, from each progress that it reaches.
-use Rattle.std.proofs.Common.{◌≡◌, ◌≢◌, ◌⊎◌, inl, inr, ⊎_elim, ℕ, zero, suc, ◌+◌, ◌*◌, ◌/◌, ◌%◌, ◌<◌, ◌≤◌, not, ltb, Bool, true, false, cond, List, [], ◌∷◌, length, Option, Some, None, refl, sym, ◌∙◌, ap, subst, arith}
-use Rattle.std.specs.Prelude.{◌-◌, ◌&&◌, ◌||◌, ◌==◌, nat_lt, if◌then◌else◌, slice_get, IfSome, IsTrue}
-use Rattle.std.specs.List.{list_any, position, position_or_len}
+use Rattle.std.proofs.Common.{◌≡◌, ◌≢◌, ◌⊎◌, inl, inr, ⊎_elim, ℕ, zero, suc, ◌+◌, ◌/◌, ◌<◌, ◌≤◌, not, ltb, Bool, true, false, cond, List, [], ◌∷◌, length, Option, Some, None, refl, sym, ◌∙◌, ap, subst, arith}
+use Rattle.std.specs.Prelude.{◌-◌, ◌&&◌, ◌==◌, nat_lt, if◌then◌else◌, slice_get, IfSome, IsTrue}
+use Rattle.std.specs.List.{position, position_or_len}
 use Rattle.std.proofs.lemmas.Bool.{and_parts, and_from, eq-eqb, lt-ltb, cases_lt, false≢true}
 use Rattle.image_meaning.specs.Laws.Options.{none_some, some_is}
 use Rattle.world_model.specs.declared.types.Command.{Command}
@@ -20,12 +20,12 @@ use Rattle.plan_steps.specs.declared.plan.Stage.TheVariants.{Absent, Writing, Sy
 use Rattle.plan_steps.specs.declared.plan.FileState.{FileState}
 use Rattle.plan_steps.specs.declared.plan.Progress.{Progress}
 use Rattle.plan_steps.specs.declared.step.Step.{Step}
-use Rattle.plan_steps.specs.declared.step.Step.TheVariants.{PutInfo, WriteEntries, PutJournal, MakePiece, MendPiece, JoinPiece, JoinDeletes, CopyPiece, Sync, Register, Unregister, DropIndex, DropData}
+use Rattle.plan_steps.specs.declared.step.Step.TheVariants.{WriteEntries, PutJournal, MakePiece, MendPiece, JoinPiece, JoinDeletes, CopyPiece, Sync}
 use Rattle.plan_steps.specs.Planned.{held, placed, is_at, is_found, is_encode}
 use Rattle.plan_steps.specs.Laws.Found.{encode_finds}
-use Rattle.plan_steps.specs.Legal.{IsFound, IsNew, HasFile, HasNoShard}
+use Rattle.plan_steps.specs.Legal.{IsFound, IsNew, HasNoShard}
 use Rattle.plan_steps.specs.Laws.Legal.{by_bool}
-use Rattle.plan_steps.specs.Order.{names_of, IsUnfinished, IsReached, IsThere, HasBesideBefore, WaitsToRegister}
+use Rattle.plan_steps.specs.Order.{IsUnfinished, IsReached, IsThere, HasBesideBefore, WaitsToRegister}
 use Rattle.plan_steps.specs.Laws.Order.{named_at, name_at}
 use Rattle.plan_steps.specs.Lists.{list_of}
 use Rattle.plan_steps.specs.Plans.{IsPlan}
@@ -34,10 +34,10 @@ use Rattle.plan_steps.specs.Members.{at_has, has_any, any_has}
 use Rattle.plan_steps.specs.Progressing.{Running, running, IsOnItsWay}
 use Rattle.plan_steps.specs.Walk.{same_kind, is_file, has_file, is_finished, is_open, first_open, position_of, is_last_stage}
 use Rattle.plan_steps.specs.Laws.Walk.{place_cases, file_is, is_this, same_kind-is, has_file-is}
-use Rattle.plan_steps.specs.May.{has_some_shard, may_register, may_remove}
+use Rattle.plan_steps.specs.May.{may_register, may_remove}
 use Rattle.plan_steps.specs.Laws.MayBack.{no_shard-is, may_register_is, may_remove_is}
-use Rattle.plan_steps.specs.Next.{make_in_rows, make_step, join_in_rows, join_step, large_end, data_step, is_made, mend_step, shard_step, shard_source, copy_index, index_step, piece_step, is_whole, going_step, coming_step, file_step, file_at, is_behind, is_synced, is_data, if_behind, turn_of, step_at, next_step}
-use Rattle.plan_steps.specs.Legality.{is_make, is_join, is_shard, is_made_kind, entries_go_on, is_behind_data, goes_on, goes_on_behind, is_in_order, is_writing, is_complete_as, is_complete_file, is_synced_file, is_legal, IsLegalNext}
+use Rattle.plan_steps.specs.Next.{make_in_rows, make_step, join_in_rows, join_step, large_end, data_step, is_made, mend_step, shard_step, shard_source, index_step, piece_step, is_whole, going_step, coming_step, file_step, file_at, is_behind, is_synced, is_data, if_behind, turn_of, step_at, next_step}
+use Rattle.plan_steps.specs.Legality.{is_make, is_join, is_shard, is_made_kind, is_behind_data, goes_on, goes_on_behind, is_in_order, is_writing, is_complete_as, is_complete_file, is_synced_file, is_legal, IsLegalNext}
 
 -- ---- the first that passes
 

@@ -1,11 +1,9 @@
 -- Which step is legal: the table.
-use Rattle.std.specs.Prelude.{ℕ, ◌+◌, ◌-◌, ◌*◌, ◌/◌, nat_lt, ◌==◌, ◌&&◌, not, Bool, true, false, if◌then◌else◌, List, Option, IfSome, IsTrue}
+use Rattle.std.specs.Prelude.{ℕ, ◌-◌, ◌/◌, nat_lt, ◌==◌, ◌&&◌, not, Bool, true, false, if◌then◌else◌, List, Option, IfSome, IsTrue}
 use Rattle.std.specs.List.{list_any}
-use Rattle.world_model.specs.declared.types.Command.{Command}
-use Rattle.world_model.specs.declared.types.Command.TheVariants.{Encode, Rebuild, Balance, Decode}
 use Rattle.file_names.specs.declared.Kind.{Kind}
 use Rattle.file_names.specs.declared.Kind.TheVariants.{Dat, Idx, Cpd, Cpx, Shard, Ecx, Ecj, Vif}
-use Rattle.file_names.specs.Names.{max_shards, is_kind, is_coded_kind}
+use Rattle.file_names.specs.Names.{is_kind, is_coded_kind}
 use Rattle.shard_table.specs.Table.{Row}
 use Rattle.plan_steps.specs.declared.plan.Plan.{Plan}
 use Rattle.plan_steps.specs.declared.plan.Stage.{Stage}

@@ -31,4 +31,5 @@ pub mod Told
 pub mod Ending
 pub mod Reading
 pub mod AnyPlans
+pub mod Breaking
 pub mod Laws

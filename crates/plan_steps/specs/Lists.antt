@@ -1,9 +1,8 @@
 -- Which files a plan writes and removes, in the order in which they are finished.
-use Rattle.std.specs.Prelude.{ℕ, ◌==◌, ◌&&◌, ◌||◌, not, Bool, true, false, if◌then◌else◌, List, [], ◌∷◌, ◌++◌, map, flat_map, filter}
+use Rattle.std.specs.Prelude.{ℕ, ◌==◌, ◌&&◌, ◌||◌, not, Bool, if◌then◌else◌, List, [], ◌∷◌, ◌++◌, map, flat_map, filter}
 use Rattle.std.specs.List.{list_any}
 use Rattle.world_model.specs.declared.types.Command.{Command}
 use Rattle.world_model.specs.declared.types.Command.TheVariants.{Encode, Rebuild, Balance, Decode}
-use Rattle.file_names.specs.declared.Kind.{Kind}
 use Rattle.file_names.specs.declared.Kind.TheVariants.{Dat, Idx, Shard, Ecx, Ecj, Vif}
 use Rattle.shard_table.specs.declared.moves.ShardMove.{ShardMove}
 use Rattle.image_meaning.specs.Files.{all_servers}

@@ -1,5 +1,5 @@
 -- What stands at the end of a rebuild or a balance: each shard once, where the moves leave it, with its files beside it.
-use Rattle.std.proofs.Common.{◌≡◌, ◌≢◌, ◌⊎◌, inl, inr, ⊎_elim, ℕ, ◌+◌, ◌<◌, ◌≤◌, Bool, true, false, List, [], length, Option, Some, None, is_some, IsTrue, refl, sym, ◌∙◌, ap, subst, arith}
+use Rattle.std.proofs.Common.{◌≡◌, ◌≢◌, ◌⊎◌, inl, inr, ⊎_elim, ℕ, ◌+◌, ◌<◌, ◌≤◌, true, false, List, [], length, Option, Some, None, is_some, refl, sym, ◌∙◌, ap, subst, arith}
 use Rattle.std.specs.Prelude.{◌==◌, unwrap_or}
 use mathlib.Core.Bool.{true≢false}
 use Rattle.std.proofs.lemmas.Bool.{eq-eqb, eqb-true}
@@ -34,7 +34,7 @@ use Rattle.plan_steps.specs.declared.plan.Plan.{Plan}
 use Rattle.plan_steps.specs.Kept.{Forms, IsKeptCoded}
 use Rattle.plan_steps.specs.Laws.Kept.{coded_where}
 use Rattle.plan_steps.specs.Planned.{held, placed, is_found, is_found_coded, planned}
-use Rattle.plan_steps.specs.Legal.{IsFound, IsNew, BeginsPlan}
+use Rattle.plan_steps.specs.Legal.{IsFound, IsNew}
 use Rattle.plan_steps.specs.Laws.Legal.{some_at, by_bool}
 use Rattle.plan_steps.specs.Lists.{is_target, mend_names, list_by, list_of}
 use Rattle.plan_steps.specs.Plans.{filled, missing_of, AreFilled, IsPlaced, AreMoves}

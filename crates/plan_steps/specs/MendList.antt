@@ -1,24 +1,24 @@
 -- The list of a rebuild or a balance, and where it takes the shards.
-use Rattle.std.proofs.Common.{◌≡◌, ◌≢◌, ◌⊎◌, inl, inr, ⊎_elim, ℕ, zero, suc, ◌+◌, ◌<◌, ◌≤◌, Bool, true, false, cond, List, [], ◌∷◌, ◌++◌, length, map, Option, Some, None, is_some, refl, sym, ◌∙◌, ap, subst, arith}
+use Rattle.std.proofs.Common.{◌≡◌, ◌≢◌, ◌⊎◌, inl, inr, ⊎_elim, ℕ, zero, suc, ◌+◌, ◌<◌, ◌≤◌, Bool, true, false, cond, List, [], ◌∷◌, ◌++◌, Option, Some, None, is_some, refl, sym, ◌∙◌, ap, subst, arith}
 use Rattle.std.specs.Prelude.{◌||◌, ◌&&◌, ◌==◌, not, if◌then◌else◌, filter, flat_map}
-use Rattle.std.specs.List.{list_any, range_with_len}
+use Rattle.std.specs.List.{range_with_len}
 use Rattle.std.proofs.lemmas.Bool.{cases_eq, cases_lt, and_parts, and_from, eq-eqb, eqb-true, ne_eqb, false≢true}
-use Rattle.image_meaning.specs.Laws.Options.{none_some, some_is}
+use Rattle.image_meaning.specs.Laws.Options.{none_some}
 use Rattle.world_model.specs.Ratios.{counts-sixteen}
 use Rattle.file_names.specs.declared.Kind.{Kind}
-use Rattle.file_names.specs.declared.Kind.TheVariants.{Dat, Idx, Cpd, Cpx, Shard, Ecx, Ecj, Vif}
+use Rattle.file_names.specs.declared.Kind.TheVariants.{Shard, Ecx, Ecj, Vif}
 use Rattle.stripe_layout.specs.Stripes.{shards_in_all}
 use Rattle.shard_table.specs.Table.{Row, place_in}
-use Rattle.shard_table.specs.Even.{count_on, row_after}
+use Rattle.shard_table.specs.Even.{count_on}
 use Rattle.shard_table.specs.declared.moves.ShardMove.{ShardMove}
 use Rattle.image_meaning.specs.Files.{all_servers}
 use Rattle.site_model.specs.Counts.{max_servers}
 use Rattle.plan_steps.specs.declared.plan.Plan.{Plan}
 use Rattle.plan_steps.specs.Planned.{held, placed, is_at}
 use Rattle.plan_steps.specs.Lists.{is_target, shard_names, beside_names, move_names, mend_names}
-use Rattle.plan_steps.specs.Plans.{all_numbers, place_if, places_of, missing_of, filled, AreFilled, IsPlaced, IsMendPlan}
+use Rattle.plan_steps.specs.Plans.{all_numbers, place_if, missing_of, filled, AreFilled, IsPlaced}
 use Rattle.plan_steps.specs.Members.{Has, has_left, has_right, has_either, has_map, map_has, has_flat, flat_has, has_filter, filter_has, has_range, range_has, has_any, any_has}
-use Rattle.plan_steps.specs.Laws.Move.{HaveFew, IsMoved, IsStill, moves_fate, IsFilled, IsPassed, Rises, AreMissing, fill_fate, filled_few, filled_some, filled_within, got_filled, place_counts, fewer_got}
+use Rattle.plan_steps.specs.Laws.Move.{HaveFew, IsFilled, IsPassed, Rises, AreMissing, fill_fate, filled_few, filled_some, filled_within, got_filled}
 
 kind_shard : (i j : ℕ) → ◌≡◌ {A = Kind} (Shard i) (Shard j) → i ≡ j
 kind_shard i j e = cc

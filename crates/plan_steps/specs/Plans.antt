@@ -1,15 +1,13 @@
 -- Which plans there are: each is made of the places of a table on so many servers.
-use Rattle.std.specs.Prelude.{◌≡◌, ◌≢◌, ℕ, ◌+◌, ◌*◌, ◌%◌, ◌^◌, ◌<◌, ◌≤◌, not, Bool, List, [], ◌∷◌, length, map, flat_map, filter, slice_set, Option, Some, None, is_some}
+use Rattle.std.specs.Prelude.{◌≡◌, ℕ, ◌+◌, ◌*◌, ◌%◌, ◌^◌, ◌<◌, ◌≤◌, not, List, [], ◌∷◌, length, map, flat_map, filter, slice_set, Option, Some, None, is_some}
 use Rattle.std.specs.List.{range_with_len, AllByRecursion}
 use Rattle.world_model.specs.Sizes.{deletion_length, max_dat}
 use Rattle.world_model.specs.declared.types.Command.{Command}
 use Rattle.world_model.specs.declared.types.Command.TheVariants.{Encode, Rebuild, Balance, Decode}
 use Rattle.world_model.specs.Ratios.{data_count}
-use Rattle.stripe_layout.specs.declared.Info.{Info}
 use Rattle.stripe_layout.specs.declared.Geometry.{Geometry}
 use Rattle.stripe_layout.specs.Stripes.{GeometryInRange, shards_in_all}
 use Rattle.shard_table.specs.Table.{Row, IsRow, place_in}
-use Rattle.file_names.specs.Names.{max_shards}
 use Rattle.shard_table.specs.Even.{IsFewest, AreInTurn, IsEvenRow, row_after}
 use Rattle.shard_table.specs.declared.moves.ShardMove.{ShardMove}
 use Rattle.image_meaning.specs.Files.{lowest}

@@ -1,5 +1,5 @@
 -- What a plan's step does to a site's files, and what a stop within it leaves.
-use Rattle.std.specs.Prelude.{◌≡◌, ◌⊎◌, ℕ, Bool, true, false, List, Option}
+use Rattle.std.specs.Prelude.{◌≡◌, ◌⊎◌, ℕ, true, false, List, Option}
 use Rattle.site_model.specs.Disk.{Place, LeftOf, Disk}
 use Rattle.site_model.specs.Disk as disk
 use Rattle.site_model.specs.Leaves.{Leaves}

@@ -1,5 +1,5 @@
 -- An allowed change keeps one of the two forms, and where no index stands it takes no last copy of a shard.
-use Rattle.std.proofs.Common.{true, ◌≡◌, ◌≢◌, ◌⊎◌, inl, inr, ℕ, ◌+◌, ◌*◌, ◌<◌, ◌≤◌, List, [], length, Option, Some, None, is_some, IsTrue, refl, sym, ◌∙◌, ap, subst}
+use Rattle.std.proofs.Common.{true, ◌≡◌, ◌≢◌, ◌⊎◌, inl, inr, ℕ, ◌<◌, List, [], Option, Some, None, is_some, IsTrue, refl, sym, ◌∙◌, ap, subst}
 use Rattle.std.specs.Prelude.{unwrap_or, option_and_then, IsSome, slice_get}
 use Rattle.std.proofs.lemmas.Bool.{cases_eq}
 use mathlib.Core.Bool.{true≢false}

@@ -1,6 +1,6 @@
 -- At a plan's start the files fit its first progress.
-use Rattle.std.proofs.Common.{◌≡◌, ◌≢◌, ◌⊎◌, inl, inr, ⊎_elim, ℕ, ◌/◌, ◌<◌, ◌≤◌, Bool, true, false, List, [], take, Option, Some, None, is_some, IsTrue, refl, sym, ◌∙◌, ap, subst, arith}
-use Rattle.std.specs.Prelude.{slice_get, if◌then◌else◌, flat_map, unwrap_or}
+use Rattle.std.proofs.Common.{◌≡◌, ◌≢◌, ◌⊎◌, inl, inr, ⊎_elim, ℕ, ◌/◌, ◌<◌, ◌≤◌, true, false, List, [], take, Option, Some, None, is_some, IsTrue, refl, sym, ◌∙◌, ap, subst, arith}
+use Rattle.std.specs.Prelude.{slice_get, flat_map, unwrap_or}
 use mathlib.Core.Bool.{true≢false}
 use Rattle.std.proofs.lemmas.Bool.{eqb-true, eq-eqb}
 use Rattle.site_model.specs.Disk.{File}
@@ -25,19 +25,18 @@ use Rattle.image_meaning.specs.Laws.Servers.{lowest-exists}
 use Rattle.image_meaning.specs.Share.{Share, finals, temps}
 use Rattle.image_meaning.specs.Parts.{Parts}
 use Rattle.plan_steps.specs.declared.plan.Plan.{Plan}
-use Rattle.plan_steps.specs.declared.plan.Stage.{Stage}
 use Rattle.plan_steps.specs.declared.plan.Stage.TheVariants.{Absent, Registered}
 use Rattle.plan_steps.specs.declared.plan.FileState.{FileState}
 use Rattle.plan_steps.specs.Kept.{StandsPlainAt, IsKeptPlain, Forms, AreForms}
-use Rattle.plan_steps.specs.Planned.{is_encode, is_found, is_found_plain, joined, planned, given}
+use Rattle.plan_steps.specs.Planned.{is_encode, is_found, is_found_plain, joined, given}
 use Rattle.plan_steps.specs.Laws.Found.{encode_finds}
-use Rattle.plan_steps.specs.Fitting.{StandsBy, AreStates, FitsStates}
+use Rattle.plan_steps.specs.Fitting.{StandsBy, AreStates}
 use Rattle.plan_steps.specs.Legal.{IsFound, IsNew, AreReadBack, BeginsPlan, HasFile, FitsPlaces}
 use Rattle.plan_steps.specs.Laws.Legal.{by_bool, given_found}
 use Rattle.plan_steps.specs.Listed.{IsListed, listed_or_other}
 use Rattle.plan_steps.specs.Order.{names_of, IsUnfinished, IsReached}
 use Rattle.plan_steps.specs.Lists.{list_of}
-use Rattle.plan_steps.specs.Progressing.{Running, IsOnItsWay, IsNextPlace, FitsProgress}
+use Rattle.plan_steps.specs.Progressing.{Running, IsNextPlace, FitsProgress}
 
 -- Nothing was written yet, and what was found stands.
 pub record IsInitial (r : Running) : Type 0 where

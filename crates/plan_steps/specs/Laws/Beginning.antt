@@ -1,6 +1,6 @@
 -- A plan's list when it begins is that of its command, and begins its progress.
 -- The last laws are for `plan_code` and `plan_mend`.
-use Rattle.std.proofs.Common.{◌≡◌, ℕ, zero, suc, ◌+◌, ◌<◌, Bool, true, false, List, [], ◌∷◌, ◌++◌, length, map, take, get_or, refl, sym, ◌∙◌, ap, append_assoc, arith}
+use Rattle.std.proofs.Common.{◌≡◌, ℕ, zero, suc, ◌+◌, ◌<◌, Bool, true, false, List, [], ◌∷◌, ◌++◌, length, take, get_or, refl, sym, ◌∙◌, ap, append_assoc, arith}
 use Rattle.std.specs.Prelude.{◌==◌, ◌||◌, if◌then◌else◌, filter, flat_map, slice_get}
 use Rattle.std.specs.List.{list_any}
 use Rattle.std.proofs.lemmas.List.{map-append}
@@ -18,7 +18,7 @@ use Rattle.plan_steps.specs.Planned.{held, is_found}
 use Rattle.plan_steps.specs.Order.{Names, names_of}
 use Rattle.plan_steps.specs.Laws.Order.{named_at}
 use Rattle.plan_steps.specs.Lists.{is_target, shard_names, beside_names, left_names, move_names, encode_names, decode_names, mend_names, list_by, list_of}
-use Rattle.plan_steps.specs.Progressing.{Running, running}
+use Rattle.plan_steps.specs.Progressing.{running}
 use Rattle.plan_steps.specs.Laws.Begin.{IsInitial}
 use Rattle.plan_steps.specs.Beginning.{first_stage, first_state, first_states, targets_of, is_new_target, new_targets_of, holders_of, has_after, names_at, names_of_move, names_of_moves, encode_list, decode_list, mend_list}
 

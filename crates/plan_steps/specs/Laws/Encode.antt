@@ -1,5 +1,5 @@
 -- The list of an encode: each file comes after those that it waits for.
-use Rattle.std.proofs.Common.{◌≡◌, ◌≢◌, ◌⊎◌, inl, inr, ⊎_elim, ℕ, zero, suc, ◌+◌, ◌<◌, ◌≤◌, true, false, List, [], ◌∷◌, ◌++◌, length, map, Some, None, refl, sym, ◌∙◌, ap, arith}
+use Rattle.std.proofs.Common.{◌≡◌, ◌≢◌, ◌⊎◌, inl, inr, ⊎_elim, ℕ, zero, suc, ◌+◌, ◌<◌, ◌≤◌, true, false, List, [], ◌∷◌, ◌++◌, length, map, Some, refl, sym, ◌∙◌, ap, arith}
 use Rattle.std.specs.Prelude.{slice_get, ◌==◌}
 use Rattle.std.proofs.lemmas.Bool.{eqb-true, eq-eqb}
 use Rattle.image_meaning.specs.Laws.Options.{none_some, some_is}
@@ -8,7 +8,7 @@ use Rattle.file_names.specs.declared.Kind.TheVariants.{Dat, Idx, Shard, Ecx, Vif
 use Rattle.stripe_layout.specs.Stripes.{shards_in_all}
 use Rattle.site_model.specs.Counts.{max_servers}
 use Rattle.plan_steps.specs.declared.plan.Plan.{Plan}
-use Rattle.plan_steps.specs.Planned.{is_encode, is_found, is_found_plain}
+use Rattle.plan_steps.specs.Planned.{is_encode, is_found_plain}
 use Rattle.plan_steps.specs.Laws.Found.{encode_finds}
 use Rattle.plan_steps.specs.Legal.{IsFound, IsNew}
 use Rattle.plan_steps.specs.Order.{Names, HasBesideBefore, WaitsToRegister, IsAfterShards}

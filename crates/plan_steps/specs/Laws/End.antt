@@ -1,9 +1,7 @@
 -- What stands once a plan's list is worked off.
-use Rattle.std.proofs.Common.{◌≡◌, ◌≢◌, ◌⊎◌, inl, inr, ⊎_elim, ℕ, ◌<◌, ◌≤◌, Bool, true, false, List, length, map, Option, Some, None, is_some, refl, sym, ◌∙◌, ap, subst, arith}
-use Rattle.std.specs.Prelude.{slice_get, option_map, IsSome}
-use Rattle.std.proofs.lemmas.Bool.{cases_lt}
+use Rattle.std.proofs.Common.{◌≡◌, ◌≢◌, ◌⊎◌, inl, inr, ⊎_elim, ℕ, ◌<◌, Bool, true, false, List, length, Option, Some, None, is_some, refl, sym, ◌∙◌, ap, subst, arith}
+use Rattle.std.specs.Prelude.{slice_get, IsSome}
 use mathlib.Core.Bool.{true≢false}
-use Rattle.site_model.specs.Disk.{File, firm_file}
 use Rattle.site_model.specs.Disk as disk
 use Rattle.world_model.specs.World.{Volume}
 use Rattle.file_names.specs.declared.Kind.{Kind}
@@ -12,7 +10,7 @@ use Rattle.file_names.specs.Names.{IsKind, max_shards}
 use Rattle.stripe_layout.specs.declared.Info.{Info}
 use Rattle.stripe_layout.specs.Stripes.{shards_in_all}
 use Rattle.shard_table.specs.Table.{Row, place_in}
-use Rattle.image_meaning.specs.Files.{VolumeFiles, stands, shard_home}
+use Rattle.image_meaning.specs.Files.{stands, shard_home}
 use Rattle.site_model.specs.Counts.{max_servers}
 use Rattle.image_meaning.specs.Sound.{Stands}
 use Rattle.image_meaning.specs.Ends.{HasNoFiles}
@@ -20,7 +18,7 @@ use Rattle.image_meaning.specs.Laws.Servers.{lowest-some, lowest-exists}
 use Rattle.image_meaning.specs.Laws.Plain.{lowest-all_fail}
 use Rattle.image_meaning.specs.Share.{Share, finals, temps}
 use Rattle.plan_steps.specs.declared.plan.Stage.{Stage}
-use Rattle.plan_steps.specs.declared.plan.Stage.TheVariants.{Absent, Writing, Synced, Registered, Gone}
+use Rattle.plan_steps.specs.declared.plan.Stage.TheVariants.{Registered, Gone}
 use Rattle.plan_steps.specs.declared.plan.FileState.{FileState}
 use Rattle.plan_steps.specs.Kept.{Forms}
 use Rattle.plan_steps.specs.Planned.{is_found, planned, given}

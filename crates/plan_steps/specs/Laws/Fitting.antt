@@ -1,9 +1,9 @@
 -- How files go on to fit, as one file of a plan goes on.
-use Rattle.std.proofs.Common.{◌≡◌, ◌≢◌, ◌⊎◌, inl, inr, ⊎_elim, ℕ, zero, suc, ◌<◌, Bool, true, false, List, [], ◌∷◌, Option, Some, None, refl, sym, ◌∙◌, ap, subst}
+use Rattle.std.proofs.Common.{◌≡◌, ◌≢◌, ◌⊎◌, inl, inr, ⊎_elim, ℕ, zero, suc, ◌<◌, true, false, List, [], ◌∷◌, Option, Some, None, refl, sym, ◌∙◌, ap, subst}
 use Rattle.std.specs.Prelude.{slice_get, slice_set}
 use Rattle.std.proofs.lemmas.Bool.{cases_eq}
 use Rattle.image_meaning.specs.Laws.Options.{some_is}
-use Rattle.site_model.specs.Disk.{File, Place, Files, IsFirm, firm_file}
+use Rattle.site_model.specs.Disk.{File, Place, Files}
 use Rattle.file_names.specs.declared.Kind.{Kind}
 use Rattle.file_names.specs.declared.FileName.{FileName}
 use Rattle.file_names.specs.Names.{IsKind, place_of}

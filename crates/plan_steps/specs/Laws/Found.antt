@@ -1,5 +1,5 @@
 -- What a plan found, by its command.
-use Rattle.std.proofs.Common.{◌≡◌, ℕ, Bool, true, false, refl, sym, ◌∙◌, ap}
+use Rattle.std.proofs.Common.{◌≡◌, ℕ, true, false, refl, sym}
 use Rattle.std.proofs.lemmas.Bool.{false≢true}
 use Rattle.world_model.specs.declared.types.Command.{Command}
 use Rattle.world_model.specs.declared.types.Command.TheVariants.{Encode, Rebuild, Balance, Decode}

@@ -1,16 +1,15 @@
 -- Files in one of a plan's two forms are sound, and mean the volume after every loss that it survives.
-use Rattle.std.proofs.Common.{◌≡◌, inl, inr, ℕ, ◌+◌, ◌*◌, ◌<◌, ◌≤◌, Bool, true, false, List, [], ◌∷◌, length, Option, Some, None, is_some, IsTrue, refl, sym, ◌∙◌, ap, subst}
+use Rattle.std.proofs.Common.{◌≡◌, inl, inr, ℕ, ◌+◌, ◌*◌, ◌≤◌, Bool, true, false, List, [], ◌∷◌, length, Option, Some, None, is_some, IsTrue, refl, sym, ◌∙◌, ap, subst}
 use Rattle.std.specs.Prelude.{option_and_then, unwrap_or, if◌then◌else◌, IsSome}
 use mathlib.Core.Bool.{true≢false}
 use Rattle.wire_num.specs.Pairs.{pairs}
 use Rattle.world_model.specs.World.{Volume, empty_volume}
 use Rattle.world_model.specs.declared.types.Mode.TheVariants as mode
-use Rattle.world_model.specs.Ratios.{data_count}
 use Rattle.file_names.specs.declared.Kind.TheVariants.{Cpx, Shard, Ecx, Ecj, Vif}
 use Rattle.stripe_layout.specs.Information.{info_of}
 use Rattle.needle_record.specs.Records.{Placed, fold_records, fold_from, after_record}
 use Rattle.volume_forms.specs.Forms.{has_super}
-use Rattle.image_meaning.specs.Files.{VolumeFiles, lose_files, standing, stands, has_index, index_at, dat_at}
+use Rattle.image_meaning.specs.Files.{VolumeFiles, lose_files, has_index, index_at, dat_at}
 use Rattle.image_meaning.specs.Plain.{index_home, kept_records, FollowsRecords}
 use Rattle.image_meaning.specs.Coded.{coded_with}
 use Rattle.image_meaning.specs.Meaning.{volume_of}

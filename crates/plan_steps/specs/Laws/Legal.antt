@@ -21,12 +21,12 @@ use Rattle.volume_forms.specs.Forms.{has_super}
 use Rattle.stripe_layout.specs.declared.Info.{Info}
 use Rattle.stripe_layout.specs.Stripes.{shards_in_all}
 use Rattle.stripe_layout.specs.Information.{info_of}
-use Rattle.shard_table.specs.Table.{Row, place_in}
+use Rattle.shard_table.specs.Table.{Row}
 use Rattle.image_meaning.specs.Files.{VolumeFiles, stands, has_index, is_holder, shard_home, standing}
 use Rattle.site_model.specs.Counts.{max_servers}
 use Rattle.image_meaning.specs.Plain.{index_home, kept_records, FollowsRecords}
 use Rattle.image_meaning.specs.Laws.Plain.{exact_kept_records, exact_follows}
-use Rattle.image_meaning.specs.Sound.{HasIndex, Stands}
+use Rattle.image_meaning.specs.Sound.{HasIndex}
 use Rattle.image_meaning.specs.Laws.Servers.{lowest-some, lowest-exists}
 use Rattle.image_meaning.specs.Laws.Views.{index_named, named_has}
 use Rattle.image_meaning.specs.Ends.{changes_form}

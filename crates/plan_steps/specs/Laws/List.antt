@@ -1,7 +1,7 @@
 -- The list of any plan: each file comes after those that it waits for, so when its turn comes it may be finished.
-use Rattle.std.proofs.Common.{◌≡◌, ◌≢◌, ◌⊎◌, inl, inr, ⊎_elim, ℕ, zero, suc, ◌+◌, ◌%◌, ◌<◌, ◌≤◌, Bool, true, false, List, [], ◌∷◌, ◌++◌, length, map, Some, None, refl, sym, ◌∙◌, ap, subst, arith}
+use Rattle.std.proofs.Common.{◌≡◌, ◌≢◌, ◌⊎◌, inl, inr, ⊎_elim, ℕ, zero, suc, ◌+◌, ◌%◌, ◌<◌, ◌≤◌, true, false, List, [], ◌∷◌, ◌++◌, length, map, Some, refl, sym, ◌∙◌, ap, subst, arith}
 use Rattle.std.specs.Prelude.{◌==◌, filter, flat_map, slice_get}
-use Rattle.std.specs.List.{list_any, range_with_len}
+use Rattle.std.specs.List.{range_with_len}
 use Rattle.std.proofs.Math.Nat.{mod-lt}
 use Rattle.std.proofs.lemmas.Bool.{and_from, eq-eqb, false≢true}
 use Rattle.image_meaning.specs.Laws.Options.{none_some, some_is}
@@ -9,7 +9,7 @@ use Rattle.world_model.specs.declared.types.Command.{Command}
 use Rattle.world_model.specs.declared.types.Command.TheVariants.{Encode, Rebuild, Balance, Decode}
 use Rattle.world_model.specs.declared.types.Ratio.{Ratio}
 use Rattle.file_names.specs.declared.Kind.{Kind}
-use Rattle.file_names.specs.declared.Kind.TheVariants.{Dat, Idx, Cpd, Cpx, Shard, Ecx, Ecj, Vif}
+use Rattle.file_names.specs.declared.Kind.TheVariants.{Dat, Idx, Shard, Ecx, Vif}
 use Rattle.stripe_layout.specs.Stripes.{shards_in_all}
 use Rattle.shard_table.specs.Table.{Row}
 use Rattle.image_meaning.specs.Files.{all_servers}
@@ -23,9 +23,9 @@ use Rattle.plan_steps.specs.Fitting.{AreStates}
 use Rattle.plan_steps.specs.Legal.{IsFound, IsNew, MayRegister, MayRemove}
 use Rattle.plan_steps.specs.Order.{Names, names_of, IsReached, WaitsToRegister, WaitsToGo}
 use Rattle.plan_steps.specs.Laws.Order.{name_at, may_register, may_remove}
-use Rattle.plan_steps.specs.Lists.{is_target, shard_names, left_names, encode_names, decode_names, mend_names, list_by, list_of}
+use Rattle.plan_steps.specs.Lists.{is_target, shard_names, left_names, encode_names, decode_names, list_by, list_of}
 use Rattle.plan_steps.specs.Plans.{all_numbers, IsPlan, IsPlanBy, IsEncodePlan, IsMendPlan}
-use Rattle.plan_steps.specs.Members.{Has, has_at, at_has, get_behind, get_either, has_either, map_has, flat_has, has_filter, filter_has, has_range, range_has, has_any}
+use Rattle.plan_steps.specs.Members.{Has, has_at, at_has, get_behind, get_either, has_either, map_has, flat_has, has_filter, filter_has, has_range, has_any}
 use Rattle.plan_steps.specs.Laws.Encode.{AreTargets, encode_shards_wait, encode_index_waits, encode_data_waits}
 use Rattle.plan_steps.specs.Laws.Decode.{decode_data_waits, decode_index_waits, decode_found_waits}
 use Rattle.plan_steps.specs.MendList.{Fills, rebuild_fills, balance_fills}

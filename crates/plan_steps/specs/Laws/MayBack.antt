@@ -1,11 +1,9 @@
 -- A file that may be registered or removed may be so by the plan's answer.
-use Rattle.std.proofs.Common.{◌≡◌, ◌≢◌, ◌⊎◌, inl, inr, ⊎_elim, ℕ, zero, suc, ◌+◌, ◌<◌, ◌≤◌, not, ltb, Bool, true, false, List, [], ◌∷◌, Option, Some, None, refl, sym, ◌∙◌, ap, arith}
+use Rattle.std.proofs.Common.{◌≡◌, ◌≢◌, ◌⊎◌, inl, inr, ⊎_elim, ℕ, zero, suc, ◌+◌, ◌<◌, ◌≤◌, not, Bool, true, false, List, refl, sym, ◌∙◌, ap, arith}
 use Rattle.std.specs.Prelude.{◌&&◌, ◌||◌, ◌==◌, slice_get}
-use Rattle.std.specs.List.{list_any, list_all, range_with_len}
-use Rattle.std.specs.Option.{option_map_or}
+use Rattle.std.specs.List.{list_all, range_with_len}
 use Rattle.std.proofs.lemmas.Bool.{and_from, eq-eqb, ne_eqb, lt-ltb, false≢true}
 use Rattle.image_meaning.specs.Laws.Options.{some_is}
-use Rattle.world_model.specs.declared.types.Command.TheVariants.{Decode}
 use Rattle.file_names.specs.declared.Kind.{Kind}
 use Rattle.file_names.specs.declared.Kind.TheVariants.{Dat, Idx, Cpd, Cpx, Shard, Ecx, Ecj, Vif}
 use Rattle.file_names.specs.Names.{max_shards}
@@ -20,7 +18,7 @@ use Rattle.plan_steps.specs.declared.plan.FileState.{FileState}
 use Rattle.plan_steps.specs.Planned.{is_decode}
 use Rattle.plan_steps.specs.Fitting.{AreStates}
 use Rattle.plan_steps.specs.Legal.{HasStage, HasFile, HasAnIndex, HasBeside, HasNoShard, HasElsewhere, MayRegister, MayDropIndex, MayRemove}
-use Rattle.plan_steps.specs.Walk.{is_registered, is_file, has_file, is_registered_at, stage_at}
+use Rattle.plan_steps.specs.Walk.{is_registered, is_file, has_file, is_registered_at}
 use Rattle.plan_steps.specs.Laws.Walk.{place_cases, file_is, is_this, has_file-true, has_file-is, here, of_file}
 use Rattle.plan_steps.specs.May.{is_nil, has_an_index, has_shard, has_some_shard, has_beside, may_register, has_all_shards, is_complete, is_complete_at, is_coded, has_no_index_but, is_only_index, is_elsewhere, has_shard_but, stands_elsewhere, is_in_ratio, may_drop_index, may_drop_shard, is_bare, may_remove}
 

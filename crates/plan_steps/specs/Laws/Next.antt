@@ -1,13 +1,12 @@
 -- What the next step is, and that there is none exactly at the end.
 -- That a plan is sized is for `plan_run`, whose running plans are to come.
-use Rattle.std.proofs.Common.{◌≡◌, ◌⊎◌, inl, inr, ⊎_elim, ℕ, not, Bool, true, false, List, Option, Some, None, refl, sym, ◌∙◌, ap}
-use Rattle.std.specs.Prelude.{◌↔◌, slice_get}
-use Rattle.std.specs.List.{position}
+use Rattle.std.proofs.Common.{◌≡◌, ◌⊎◌, ⊎_elim, ℕ, not, Bool, true, false, List, None, refl, sym, ◌∙◌, ap}
+use Rattle.std.specs.Prelude.{◌↔◌}
 use Rattle.std.proofs.lemmas.Bool.{false≢true}
 use Rattle.image_meaning.specs.Laws.Options.{none_some}
 use Rattle.plan_steps.specs.declared.plan.Plan.{Plan}
 use Rattle.plan_steps.specs.declared.plan.FileState.{FileState}
-use Rattle.plan_steps.specs.Walk.{is_finished, is_open, first_open, AreFinished}
+use Rattle.plan_steps.specs.Walk.{is_finished, is_open, AreFinished}
 use Rattle.plan_steps.specs.Laws.Walk.{place_cases}
 use Rattle.plan_steps.specs.Next.{IsSized, file_at, step_at, next_step}
 use Rattle.plan_steps.specs.Plans.{IsPlan}

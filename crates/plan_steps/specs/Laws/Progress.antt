@@ -1,8 +1,8 @@
 -- Each kind of call of a step: every stop keeps the volume, and after success the plan has come on.
-use Rattle.std.proofs.Common.{◌≡◌, ◌≢◌, ◌⊎◌, inl, inr, ⊎_elim, ℕ, ◌+◌, ◌<◌, ◌≤◌, Bool, true, false, List, length, take, drop, Some, None, refl, sym, ◌∙◌, ap, subst}
+use Rattle.std.proofs.Common.{◌≡◌, ◌≢◌, ◌⊎◌, ⊎_elim, ℕ, ◌+◌, ◌<◌, ◌≤◌, Bool, true, false, List, length, take, drop, Some, None, refl, sym, ◌∙◌, subst}
 use Rattle.std.specs.Prelude.{slice_get, slice_set}
 use mathlib.Core.Bool.{true≢false}
-use Rattle.site_model.specs.Disk.{Place, Files, IsRenamed, firm_file, grown, synced, Disk, Appends, Syncs, Renames}
+use Rattle.site_model.specs.Disk.{Place, IsRenamed, firm_file, grown, synced, Disk, Appends, Syncs, Renames}
 use Rattle.site_model.specs.Touches.{touches_append, touches_sync}
 use Rattle.whole_file.specs.Whole.{Clears, WritesWhole}
 use Rattle.whole_file.specs.Whole as whole
@@ -12,8 +12,6 @@ use Rattle.shard_table.specs.Table.{Row}
 use Rattle.image_meaning.specs.Files.{VolumeFiles}
 use Rattle.site_model.specs.Counts.{max_servers}
 use Rattle.image_meaning.specs.Share.{Share, share_of, finals, IsFirmShare}
-use Rattle.plan_steps.specs.declared.plan.Plan.{Plan}
-use Rattle.plan_steps.specs.declared.plan.Stage.{Stage}
 use Rattle.plan_steps.specs.declared.plan.Stage.TheVariants.{Absent, Writing, Synced, Registered, Gone}
 use Rattle.plan_steps.specs.declared.plan.FileState.{FileState}
 use Rattle.plan_steps.specs.Kept.{Forms}
@@ -26,7 +24,7 @@ use Rattle.plan_steps.specs.Laws.Legal.{firm_now, given_bytes, planned_bytes, re
 use Rattle.plan_steps.specs.Order.{IsUnfinished, IsReached}
 use Rattle.plan_steps.specs.Laws.Step as step
 use Rattle.plan_steps.specs.Laws.Way.{is_new, is_found_here, way_still, way_on, next_still}
-use Rattle.plan_steps.specs.Progressing.{Running, IsOnItsWay, IsNextPlace, FitsProgress}
+use Rattle.plan_steps.specs.Progressing.{Running, IsNextPlace, FitsProgress}
 
 -- Under final names files are firm where those of the start were.
 pub progress_firm : (w : Volume) (f : Forms) (r : Running) (row : Row) (start now : Share) → FitsProgress w f r row start now → IsFirmShare start → IsFirmShare now

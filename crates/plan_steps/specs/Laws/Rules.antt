@@ -1,7 +1,7 @@
 -- The rules of a coded volume hold of files that hold its parts, as long as the shards suffice, also while an index stands
 -- beside them, as in a decode.
-use Rattle.std.proofs.Common.{◌≡◌, inl, ℕ, zero, suc, ◌+◌, ◌*◌, ◌<◌, ◌≤◌, true, List, [], ◌∷◌, length, Option, Some, None, is_some, IsTrue, refl, sym, ◌∙◌, ap, subst, arith}
-use Rattle.std.specs.Prelude.{map, nat_eq, slice_get, unwrap_or, Contains}
+use Rattle.std.proofs.Common.{◌≡◌, inl, ℕ, zero, suc, ◌<◌, ◌≤◌, true, List, [], ◌∷◌, length, Option, Some, None, is_some, IsTrue, refl, sym, ◌∙◌, ap, subst, arith}
+use Rattle.std.specs.Prelude.{map, slice_get, unwrap_or, Contains}
 use Rattle.std.specs.List.{AllByRecursion}
 use mathlib.Core.Bool.{true≢false}
 use Rattle.image_meaning.specs.Laws.Options.{none_some, some_is}

@@ -1,6 +1,6 @@
 -- A run that changes one file which may be changed, or temporary files alone, keeps the volume at every stop, and its shards.
 -- What nothing cites yet is for the running plans of `plan_run`, to come.
-use Rattle.std.proofs.Common.{Bool, ◌≡◌, ◌≢◌, ◌⊎◌, inl, inr, ⊎_elim, ℕ, ◌<◌, true, false, List, Option, Some, None, is_some, refl, sym, ◌∙◌, ap, subst}
+use Rattle.std.proofs.Common.{◌≡◌, ◌≢◌, ◌⊎◌, inl, inr, ⊎_elim, ℕ, ◌<◌, true, false, List, Option, Some, None, is_some, refl, sym, ◌∙◌, ap, subst}
 use Rattle.site_model.specs.Disk.{Place, Files, Image, LeftOf, LeftOutside, IsRenamed, firm_file, Disk, Renames, Removes}
 use Rattle.site_model.specs.Disk as disk
 use Rattle.site_model.specs.Leaves.{Leaves, starts, joins, weaker, both, by_rename, by_remove, place_cases}

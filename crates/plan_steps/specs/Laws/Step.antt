@@ -1,9 +1,9 @@
 -- What the calls of a step leave: at every stop files that keep the volume, and after success files that fit again.
-use Rattle.std.proofs.Common.{◌≡◌, ◌≢◌, ◌⊎◌, inl, inr, ⊎_elim, ℕ, ◌+◌, ◌<◌, ◌≤◌, Bool, true, false, List, [], ◌++◌, length, take, drop, Option, Some, None, refl, sym, ◌∙◌, ap, subst, arith}
+use Rattle.std.proofs.Common.{◌≡◌, ◌≢◌, ◌⊎◌, inl, inr, ⊎_elim, ℕ, ◌+◌, ◌<◌, ◌≤◌, true, false, List, [], ◌++◌, length, take, drop, Option, Some, None, refl, sym, ◌∙◌, ap, subst, arith}
 use Rattle.std.specs.Prelude.{slice_get, slice_set}
 use Rattle.std.proofs.Math.Seq.{take-add}
 use Rattle.std.proofs.lemmas.List.{take_all}
-use Rattle.site_model.specs.Disk.{File, Place, Files, IsRenamed, firm_file, grown, synced, Disk, Appends, Syncs, Renames}
+use Rattle.site_model.specs.Disk.{File, Place, IsRenamed, firm_file, grown, synced, Disk, Appends, Syncs, Renames}
 use Rattle.site_model.specs.Disk as disk
 use Rattle.site_model.specs.Touches.{Touches, touches_more, touches_append, touches_sync}
 use Rattle.whole_file.specs.Whole.{Clears, WritesWhole, IsWritten}

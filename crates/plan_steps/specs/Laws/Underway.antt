@@ -1,5 +1,5 @@
 -- While a plan runs its volume is underway: the files hold what they meant at the start, in a form that the command may have.
-use Rattle.std.proofs.Common.{◌≡◌, inl, inr, ℕ, Bool, true, false, List, [], ◌∷◌, Some, refl, sym, ◌∙◌, ap, subst}
+use Rattle.std.proofs.Common.{◌≡◌, inl, inr, true, false, Some, refl, sym, ◌∙◌, ap, subst}
 use Rattle.image_meaning.specs.Laws.Options.{some_is}
 use mathlib.Core.Bool.{true≢false}
 use Rattle.site_model.specs.Disk.{Disk}
@@ -15,10 +15,9 @@ use Rattle.image_meaning.specs.Files.{VolumeFiles, files_of}
 use Rattle.image_meaning.specs.Coded.{coded_with}
 use Rattle.image_meaning.specs.Meaning.{volume_of}
 use Rattle.image_meaning.specs.Ends.{changes_form}
-use Rattle.image_meaning.specs.Share.{Share, share_of, finals, IsFirmShare}
+use Rattle.image_meaning.specs.Share.{Share, finals, IsFirmShare}
 use Rattle.image_meaning.specs.Outlasts.{IsHeld, held_plain, held_coded}
 use Rattle.image_meaning.specs.Near.{IsFormOf, IsUnderway}
-use Rattle.image_meaning.specs.Parts.{Parts}
 use Rattle.image_meaning.specs.HeldParts.{held_all}
 use Rattle.plan_steps.specs.Kept.{Forms, AreForms, HasAForm, IsSameVolume}
 use Rattle.plan_steps.specs.Laws.Kept.{fold_mode, kept_plain, kept_plain_sound, kept_plain_means, kept_coded, kept_coded_rules, kept_coded_means}

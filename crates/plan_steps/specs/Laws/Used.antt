@@ -1,6 +1,6 @@
 -- A plan has no more steps than a job has lines for them, by the bytes that its volume uses: each record that its lists
 -- name takes 32 of them at least.
-use Rattle.std.proofs.Common.{◌≡◌, ℕ, ◌+◌, ◌-◌, ◌*◌, ◌/◌, ◌≤◌, Bool, true, false, cond, List, [], ◌∷◌, ◌++◌, length, Option, Some, None, refl, ◌∙◌, ap, arith, length-append}
+use Rattle.std.proofs.Common.{◌≡◌, ℕ, ◌+◌, ◌-◌, ◌*◌, ◌≤◌, Bool, true, false, cond, List, [], ◌∷◌, ◌++◌, length, Option, Some, None, refl, ◌∙◌, ap, arith, length-append}
 use Rattle.std.specs.Prelude.{flat_map}
 use Rattle.std.specs.Ordering.{nat_cmp}
 use Rattle.std.specs.Int.{w32, cast_unsigned}
@@ -19,11 +19,8 @@ use Rattle.volume_forms.specs.Laws.Entry.{length-entries}
 use Rattle.needle_record.specs.Spelling.{record_size}
 use Rattle.needle_record.specs.Records.{Placed, Index, records, live, entry_of, fold_from, after_record, index_from, index_of, index_after_content}
 use Rattle.shard_table.specs.Table.{Row}
-use Rattle.image_meaning.specs.Coded.{coded_with}
 use Rattle.image_meaning.specs.Meaning.{volume_of}
-use Rattle.image_meaning.specs.Parts.{Parts, AreSoundParts}
 use Rattle.image_meaning.specs.Share.{Share, finals}
-use Rattle.plan_steps.specs.declared.plan.Plan.{Plan}
 use Rattle.plan_steps.specs.Kept.{Forms}
 use Rattle.plan_steps.specs.Planned.{is_encode}
 use Rattle.plan_steps.specs.Next.{entries_by}

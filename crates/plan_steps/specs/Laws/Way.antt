@@ -5,8 +5,6 @@ use Rattle.std.specs.Prelude.{slice_get, slice_set}
 use Rattle.std.proofs.lemmas.Bool.{cases_eq, cases_lt}
 use Rattle.std.proofs.lemmas.List.{get_or-set_same, get_or-set_other}
 use Rattle.image_meaning.specs.Laws.Options.{none_some, some_is}
-use mathlib.Core.Bool.{true≢false}
-use Rattle.world_model.specs.declared.types.Command.TheVariants.{Decode}
 use Rattle.file_names.specs.declared.Kind.{Kind}
 use Rattle.file_names.specs.declared.Kind.TheVariants.{Idx, Shard}
 use Rattle.stripe_layout.specs.Stripes.{shards_in_all}
@@ -15,7 +13,7 @@ use Rattle.shard_table.specs.Table.{Row, place_in}
 use Rattle.image_meaning.specs.Parts.{Parts}
 use Rattle.plan_steps.specs.declared.plan.Plan.{Plan}
 use Rattle.plan_steps.specs.declared.plan.Stage.{Stage}
-use Rattle.plan_steps.specs.declared.plan.Stage.TheVariants.{Absent, Writing, Synced, Registered, Gone}
+use Rattle.plan_steps.specs.declared.plan.Stage.TheVariants.{Registered, Gone}
 use Rattle.plan_steps.specs.declared.plan.FileState.{FileState}
 use Rattle.plan_steps.specs.Planned.{joined, is_found}
 use Rattle.plan_steps.specs.Fitting.{AreStates, IsOther}

@@ -1,5 +1,4 @@
--- A decode whose joined data file isn't records to its end, which no volume that was sound as it began has. For the store with
--- jobs, to come.
+-- A plan that follows its files doesn't break off.
 use Rattle.std.proofs.Common.{◌≡◌, ℕ, zero, suc, ◌+◌, ◌-◌, ◌/◌, ◌≤◌, true, false, List, [], ◌∷◌, length, Some, None, refl, sym, ◌∙◌, ap, subst, arith}
 use Rattle.std.specs.Prelude.{take, drop, slice_get}
 use Rattle.std.proofs.lemmas.List.{drop-drop, take_all, length-take}
@@ -19,21 +18,13 @@ use Rattle.plan_steps.specs.declared.plan.Stage.TheVariants.{Absent, Writing, Sy
 use Rattle.plan_steps.specs.declared.plan.FileState.{FileState}
 use Rattle.plan_steps.specs.Planned.{joined, given}
 use Rattle.plan_steps.specs.Fitting.{StandsBy}
-use Rattle.plan_steps.specs.Next.{joined_length}
 use Rattle.plan_steps.specs.Laws.Legal.{given_new}
 use Rattle.plan_steps.specs.Laws.AsTold.{long_as_planned}
 use Rattle.plan_steps.specs.Lists.{list_of}
 use Rattle.plan_steps.specs.Laws.Order.{named_at}
 use Rattle.plan_steps.specs.DecodeEnd.{list_is, finds}
 use Rattle.plan_steps.specs.Progressing.{Running, Follows}
-
--- The data file stands whole as a temporary file, and from the place of the next record on it isn't records to its end.
-pub record BreaksOff (r : Running) (now : Share) : Type 0 where
-  pub decode : r.plan.command ≡ Decode
-  pub dat : List ℕ
-  pub stands : standing (now r.plan.home Dat true) ≡ Some dat
-  pub whole : length dat ≡ joined_length r.plan
-  pub breaks : (ps : List Placed) → AreRecords r.place (drop r.place dat) ps → ⊥
+use Rattle.plan_steps.specs.Breaking.{BreaksOff}
 
 -- ---- records behind others
 

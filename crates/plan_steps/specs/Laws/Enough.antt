@@ -1,4 +1,4 @@
--- A rebuild and a balance leave shards enough to be read, at each progress and on every site. For the store with jobs, to come.
+-- A rebuild and a balance leave shards enough to be read, at each progress and on every site.
 use Rattle.std.proofs.Common.{◌≡◌, ◌⊎◌, inl, inr, ⊎_elim, ℕ, ◌<◌, ◌≤◌, Bool, true, false, cond, List, [], ◌∷◌, ◌++◌, length, Option, Some, None, is_some, refl, sym, ◌∙◌, ap, subst, arith}
 use Rattle.std.specs.Prelude.{filter, flat_map, slice_get}
 use mathlib.Core.Bool.{true≢false}

@@ -281,7 +281,7 @@ module _ (tells : Type 0) (plan : Plan) (below : plan.volume < max_volumes) (p q
 
   module _ (by : Step) (taken : ℕ) (piece : List ℕ) (begun : (s.stage ≡ Absent) ⊎ (s.stage ≡ Writing)) (count : piece_length plan taken s.length by ≡ length piece) (goes : goes_on_behind plan p.place by s ≡ true)
       (only : (k : ℕ) (u : FileState) → slice_get p.files.items k ≡ Some u → goes_on_behind plan p.place by u ≡ true → k ≡ j)
-      (right : (w : Volume) (f : Forms) (row : Row) (start : Share) → FitsProgress w f r row start (share_of old.files plan.volume) → IsPiece f.parts s piece)
+      (right : tells → (w : Volume) (f : Forms) (row : Row) (start : Share) → FitsProgress w f r row start (share_of old.files plan.volume) → IsPiece f.parts s piece)
       (no_index : s.kind ≢ Idx) (how : (u : FileState) → after plan p.place taken by u ≡ appended plan p.place taken by u) (still : (n : ℕ) → n ≡ p.place → PlaceAfter plan p.place n by) where
     abbrev GrowDoes : Answer → Type 0
     GrowDoes result = Does (TouchesTemp r j old new) (Keeps r j old new) (Grown r j piece old new m) (GrownTold r j old new m) result
@@ -310,7 +310,7 @@ module _ (tells : Type 0) (plan : Plan) (below : plan.volume < max_volumes) (p q
             (record { listed = on.listed; apart = on.apart; reached = on.reached; places = subst (λ (x : Running). FitsPlaces plan x.states onward) (same_run state) places });
         told = λ t was. (did t).told s at below are begun was;
         follows = λ t w f row onward start fits places.
-            let is = right w f row start fits in
+            let is = right t w f row start fits in
             other_row w f m row onward start (share_of new.files plan.volume)
             ((did t).fitting w f row start s fits at begun is.whole is.planned_is is.follows is.within q.place
             (subst (IsNextPlace f.parts) (sym (same_run state)) (next_still r row fits.way j s (grown_by (length piece) s) at refl refl f.parts (λ idx. absurd (no_index idx)) fits.next))) places;

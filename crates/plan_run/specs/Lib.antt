@@ -6,3 +6,4 @@ pub mod Running
 pub mod Stepping
 pub mod Places
 pub mod Pieces
+pub mod Copying

@@ -55,7 +55,7 @@ returns-clause-steps g c =
     (g.T.Site.disk c.args.site.now) (g.T.Site.disk c.grow_file.new.site) (step.JoinDeletes c.args.at) 0 (piece (running c.args.plan.now c.args.progress.now) (g.T.Site.servers c.args.site.now) c.args.names.now c.requires.work c.args.at c.requires.due)
     (begun_by c.requires.due.file.stage c.requires.due.behind) (sym (long (running c.args.plan.now c.args.progress.now) (g.T.Site.servers c.args.site.now) c.args.names.now c.requires.work c.args.at c.requires.due)) (goes (running c.args.plan.now c.args.progress.now) (g.T.Site.servers c.args.site.now) c.args.names.now c.requires.work c.args.at c.requires.due)
     (only (running c.args.plan.now c.args.progress.now) (g.T.Site.servers c.args.site.now) c.args.names.now c.requires.work c.args.at c.requires.due c.place_of-place.result (c.place_of-place.ensures c.requires.due.at c.requires.due.file c.requires.due.there (is (running c.args.plan.now c.args.progress.now) (g.T.Site.servers c.args.site.now) c.args.names.now c.requires.work c.args.at c.requires.due).0 (is (running c.args.plan.now c.args.progress.now) (g.T.Site.servers c.args.site.now) c.args.names.now c.requires.work c.args.at c.requires.due).1))
-    (right (running c.args.plan.now c.args.progress.now) (g.T.Site.servers c.args.site.now) c.args.names.now c.requires.work c.args.at c.requires.due (share_of (g.T.Site.disk c.args.site.now).files c.args.plan.now.volume))
+    (λ told. right (running c.args.plan.now c.args.progress.now) (g.T.Site.servers c.args.site.now) c.args.names.now c.requires.work c.args.at c.requires.due (share_of (g.T.Site.disk c.args.site.now).files c.args.plan.now.volume))
     (no_index (running c.args.plan.now c.args.progress.now) (g.T.Site.servers c.args.site.now) c.args.names.now c.requires.work c.args.at c.requires.due) (λ u. refl) (λ n e. e)
     (take (32 * length c.ids_from-ids.result.now) c.fill_deletions.new.room) (c.fill_deletions.ensures.deletions ∙ ap deletions c.ids_from-ids.ensures)
     c.grow_file.result c.grow_file.ensures.effect c.grow_file.ensures.state

@@ -57,7 +57,7 @@ some_standing : (o : Option disk.File) → IsSome o → is_some (disk.standing o
 some_standing None some = absurd (true≢false (sym some))
 some_standing (Some file) some = refl
 
-standing_some : (o : Option disk.File) → is_some (disk.standing o) ≡ true → IsSome o
+pub standing_some : (o : Option disk.File) → is_some (disk.standing o) ≡ true → IsSome o
 standing_some None st = absurd (true≢false (sym st))
 standing_some (Some file) st = refl
 

@@ -6,7 +6,7 @@ use Rattle.std.specs.List.{range_with_len}
 use mathlib.Core.Bool.{true≢false}
 use Rattle.std.proofs.lemmas.Bool.{cases_eq, cases_lt, lt-ltb, le-ltb, lt-leb}
 use Rattle.std.proofs.lemmas.List.Elements.{Contains-append_left, Contains-push, Contains-push_cases}
-use Rattle.site_model.specs.Disk.{File, Files, IsPossible, size_of, bytes_of}
+use Rattle.site_model.specs.Disk.{File, Files, IsPossible, bytes_of}
 use Rattle.site_model.specs.Disk as disk
 use Rattle.world_model.specs.declared.types.Mode.TheVariants as mode
 use Rattle.wire_num.specs.Laws.Number.{AreBytes}

@@ -2,7 +2,7 @@
 use Rattle.std.proofs.Common.{◌≡◌, ◌≢◌, ◌⊎◌, inl, inr, ⊎_elim, ℕ, ◌<◌, false, Option, Some, None, is_some, List, IsTrue, refl, sym, ◌∙◌, ap, subst}
 use Rattle.std.specs.Prelude.{unwrap_or, []}
 use Rattle.std.proofs.lemmas.Bool.{cases_eq}
-use Rattle.site_model.specs.Disk.{Place, Files, Image, IsFirm, LeftOf, LeftOfAll, IsRenamed, Renames, Disk, IsSettled}
+use Rattle.site_model.specs.Disk.{Place, Files, Image, IsFirm, LeftOfAll, IsRenamed, Renames, Disk, IsSettled}
 use Rattle.site_model.specs.Disk as disk
 use Rattle.site_model.specs.Leaves.{Leaves, starts, weaker, by_rename, place_cases}
 use Rattle.site_model.specs.Touches.{firm_left, touches_rename, touches_more}

@@ -20,7 +20,7 @@ use Rattle.coded_volume.specs.declared.checking.Checked.{Checked}
 use Rattle.coded_volume.specs.Checking.{AreHolders, Breaks, IsChecked, TellsFirst, TellsRule}
 use Rattle.coded_volume.specs.Checking.{IsSiteFault}
 use Rattle.site_recovery.specs.CodedGone.{HasShardHomes}
-use Rattle.site_recovery.specs.CodedSettling.{IsTestedCoded, FailsShards}
+use Rattle.site_recovery.specs.CodedSettling.{IsFoundCoded, FailsShards}
 
 -- the shards with a home are those that stand
 homes_counted : (files : VolumeFiles) (homes : List (Option ℕ)) → length homes ≡ max_shards → HasShardHomes files homes → count_by is_some homes ≡ length (standing files)
@@ -63,8 +63,8 @@ module _ (files : VolumeFiles) (holders : Holders) (are : AreHolders files holde
     enough = subst (λ (r : Ratio). data_count r ≤ length (standing files)) (sym told) (subst (λ n. data_count ratio ≤ n) count_is enough);
   })
 
-pub tested_by : (files : VolumeFiles) (checked : Checked) → IsCoded files → IsChecked files checked.info checked.deleted.items → IsTestedCoded files checked.deleted.items
-tested_by files checked coded is = record { coded = coded; passes = is.passes; longest = is.longest }
+pub found_by : (files : VolumeFiles) (checked : Checked) → IsCoded files → IsChecked files checked.info checked.deleted.items → IsFoundCoded files checked
+found_by files checked coded is = record { tested = record { coded = coded; passes = is.passes; longest = is.longest }; told = is.told }
 
 -- ---- why a test fails
 

@@ -22,7 +22,6 @@ use Rattle.coded_volume.specs.Checking.{AreStanding}
 use Rattle.coded_volume.proofs.Standing.{stands_holder}
 use Rattle.site_recovery.specs.declared.forms.Listed.{Listed}
 use Rattle.site_recovery.specs.Listing.{AreFilesOf, IsLongDat}
-use Rattle.site_recovery.specs.CodedSettling.{HasUnindexed, HasCopiesAt, without_shards}
 use Rattle.site_recovery.proofs.Homing.{long_here, long_nowhere}
 use Rattle.site_recovery.proofs.Settled.{bytes_same}
 
@@ -59,14 +58,6 @@ module _ (files : VolumeFiles) (copies : List ShardCopy) (empty : length copies 
 
     pub short_absent : false ≡ has_long_dat files → mode_of files ≡ None
     short_absent short = mode_is ∙ ap (λ b. if b then Some mode.Lost else None) (sym short)
-
-    pub shardless_found : (long : Bool) → long ≡ has_long_dat files → HasUnindexed files (without_shards long)
-    shardless_found true is = (long_lost is, one_ratio)
-    shardless_found false is = short_absent is
-
-pub shardless_copies : (servers : ℕ) (long : Bool) → HasCopiesAt servers (without_shards long)
-shardless_copies servers true = tt
-shardless_copies servers false = tt
 
 -- ---- the data files
 

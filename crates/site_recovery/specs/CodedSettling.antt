@@ -1,5 +1,5 @@
 -- What becomes of a coded volume's files. For the recovery of coded volumes, to come.
-use Rattle.std.specs.Prelude.{◌≡◌, ◌⊎◌, ℕ, Bool, true, false, List, Option, Some, None}
+use Rattle.std.specs.Prelude.{◌≡◌, ◌⊎◌, ℕ, Bool, true, List, Option, Some, None}
 use Rattle.site_model.specs.Disk.{Place, Files, IsSettled}
 use Rattle.file_names.specs.declared.Kind.{Kind}
 use Rattle.file_names.specs.Names.{IsKind, place_of}
@@ -7,12 +7,9 @@ use Rattle.image_meaning.specs.Files.{VolumeFiles, contents, files_of}
 use Rattle.site_model.specs.declared.error.OpenFault.{OpenFault}
 use Rattle.site_model.specs.declared.error.OpenFault.TheVariants as open_fault
 use Rattle.image_meaning.specs.Sound.{IsCoded, IsLost, HasOneRatio}
+use Rattle.image_meaning.specs.Coded.{volume_info}
 use Rattle.image_meaning.specs.CodedTests.{PassesCoded, FailsCodedFirst}
 use Rattle.coded_volume.specs.declared.checking.Checked.{Checked}
-use Rattle.coded_volume.specs.Checking.{AreCopies, AreStanding}
-use Rattle.image_meaning.specs.Meaning.{mode_of}
-use Rattle.site_recovery.specs.declared.forms.Unindexed.{Unindexed}
-use Rattle.site_recovery.specs.declared.forms.Unindexed.TheVariants as unindexed
 use Rattle.site_recovery.specs.Steps.{KeepsMeaning}
 use Rattle.site_recovery.specs.CodedSteps.{IsLeftCoded}
 
@@ -37,9 +34,14 @@ pub record IsSettledCoded (v : ℕ) (ids : List ℕ) (old new : Files) : Type 0 
 
 -- ---- the tests
 
--- coded, with the ids of the longest journal, or lost, with texts that tell one ratio
+-- The volume is coded, and passes the tests with this text and these ids.
+pub record IsFoundCoded (files : VolumeFiles) (checked : Checked) : Type 0 where
+  pub tested : IsTestedCoded files checked.deleted.items
+  pub told : volume_info files ≡ Some checked.info
+
+-- coded, with its text and the ids of the longest journal, or lost, with texts that tell one ratio
 abbrev pub HasShardForm : VolumeFiles → Option Checked → Type 0
-HasShardForm files (Some checked) = IsTestedCoded files checked.deleted.items
+HasShardForm files (Some checked) = IsFoundCoded files checked
 HasShardForm files None = IsLost files × HasOneRatio files
 
 -- The volume is coded, and this is the first tested rule that is false of it, or it is lost, and its texts tell several ratios.
@@ -47,20 +49,3 @@ abbrev pub FailsShards : ℕ → VolumeFiles → OpenFault → Type 0
 FailsShards v files (open_fault.Unsound volume rule) = (volume ≡ v) × ((IsCoded files × FailsCodedFirst files rule) ⊎ (IsLost files × (rule ≡ 4) × (HasOneRatio files → ⊥)))
 FailsShards v files (open_fault.Fault server) = Unit {0}
 FailsShards v files open_fault.Memory = Unit {0}
-
--- what was found of a volume without index
-abbrev pub HasUnindexed : VolumeFiles → Unindexed → Type 0
-HasUnindexed files (unindexed.Coded copies deleted) = AreStanding files copies.items × IsTestedCoded files deleted.items
-HasUnindexed files unindexed.Lost = IsLost files × HasOneRatio files
-HasUnindexed files unindexed.Absent = mode_of files ≡ None
-
--- the copies of a coded volume are at so many servers
-abbrev pub HasCopiesAt : ℕ → Unindexed → Type 0
-HasCopiesAt servers (unindexed.Coded copies deleted) = AreCopies servers copies.items
-HasCopiesAt servers unindexed.Lost = Unit {0}
-HasCopiesAt servers unindexed.Absent = Unit {0}
-
--- a volume without index and shards, by whether it has a long data file
-abbrev pub without_shards : Bool → Unindexed
-without_shards true = unindexed.Lost
-without_shards false = unindexed.Absent

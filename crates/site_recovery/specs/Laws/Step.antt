@@ -5,7 +5,7 @@ use Rattle.std.specs.List.{range_with_len}
 use mathlib.Core.Bool.{true≢false}
 use Rattle.std.proofs.lemmas.Bool.{cases_eq, cases_lt, ltb-false, lt-ltb}
 use Rattle.std.proofs.lemmas.List.{length-take}
-use Rattle.site_model.specs.Disk.{File, Place, Image, IsFirm, LeftOf, cut_to}
+use Rattle.site_model.specs.Disk.{File, Place, Image, IsFirm, cut_to}
 use Rattle.site_model.specs.Disk as disk
 use Rattle.site_model.specs.Touches.{firm_left}
 use Rattle.world_model.specs.declared.types.Mode.{Mode}

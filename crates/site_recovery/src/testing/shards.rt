@@ -4,6 +4,7 @@ ghost use Rattle.site_model.specs.Counts.{Calls};
 ghost use Rattle.image_meaning.specs.Plain.{index_home};
 ghost use Rattle.coded_volume.specs.Checking.{AreCopies, AreStanding, files_on};
 ghost use Rattle.site_recovery.specs.CodedSettling.{HasShardForm, FailsShards};
+ghost use Rattle.site_recovery.specs.Opening.{HasRoomFor};
 
 use crate::placing::homes_of;
 use crate::testing::ratios::{ratio_at, test_ratios};
@@ -26,6 +27,7 @@ pub(crate) fn test_shards<T: Site>(
     requires no_index { IsTrue T.tells → index_home (files_on (T.disk site.old).files volume) ≡ None }
     ensures found { IfOk result (λ found. IsTrue T.tells
         → HasShardForm (files_on (T.disk site.old).files volume) found) }
+    ensures room { IfOk result HasRoomFor }
     ensures broken { IfErr result (λ fault. IsTrue T.tells
         → FailsShards volume (files_on (T.disk site.old).files volume) fault) }
     ensures same { IsTrue T.tells → T.disk site.new ≡ T.disk site.old }

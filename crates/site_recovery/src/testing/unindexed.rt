@@ -6,13 +6,13 @@ ghost use Rattle.image_meaning.specs.Plain.{index_home};
 ghost use Rattle.coded_volume.specs.Checking.{files_on};
 ghost use Rattle.coded_volume.specs.Checking.{IsSiteFault};
 ghost use Rattle.site_recovery.specs.Listing.{AreFilesOf, AreInOrder, IsLongDat};
-ghost use Rattle.site_recovery.specs.CodedSettling.{FailsShards, HasCopiesAt, HasUnindexed, without_shards};
+ghost use Rattle.site_recovery.specs.Opening.{FailsListed, IsTestedForm, IsWithin, with_shards, without_shards};
 
 use crate::asking::size_at;
-use crate::forms::{Listed, Unindexed};
+use crate::forms::{Listed, ListedForm};
 use crate::listing::copies_of;
 use crate::testing::shards::test_shards;
-use coded_volume::Checked;
+use coded_volume::{Checked, ShardCopy};
 use file_names::{Kind, final_name};
 use site_model::{OpenFault, Site};
 use std::alloc::Global;
@@ -24,14 +24,15 @@ pub(crate) fn test_unindexed<T: Site>(
     site: &mut T,
     volume: u32,
     files: &[Listed],
-) -> Result<Unindexed, OpenFault>
+) -> Result<ListedForm, OpenFault>
     requires order { AreInOrder (T.servers site.old) files.now }
     requires files { IsTrue T.tells → AreFilesOf (T.disk site.old).files volume files.now }
     requires no_index { IsTrue T.tells → index_home (files_on (T.disk site.old).files volume) ≡ None }
-    ensures found { IfOk result (λ found. HasCopiesAt (T.servers site.old) found
-        × (IsTrue T.tells → HasUnindexed (files_on (T.disk site.old).files volume) found)) }
+    ensures found { IfOk result (λ form. IsTrue T.tells
+        → IsTestedForm (files_on (T.disk site.old).files volume) form) }
+    ensures within { IfOk result (IsWithin (T.servers site.old)) }
     ensures broken { IfErr result (λ fault. IsTrue T.tells
-        → FailsShards volume (files_on (T.disk site.old).files volume) fault) }
+        → FailsListed volume (files_on (T.disk site.old).files volume) fault) }
     ensures same { IsTrue T.tells → T.disk site.new ≡ T.disk site.old }
     ensures runs { Calls T.counts T.servers site.old site.new (λ s. IsErrOf result (OpenFault.Fault s)) }
 {
@@ -40,20 +41,28 @@ pub(crate) fn test_unindexed<T: Site>(
         let long = is_long_listed(alloc, site, volume, files)?;
         return Ok(without_shards(long));
     }
-    match test_shards(alloc, site, volume, &copies)? {
-        Some(Checked { deleted, .. }) => Ok(Unindexed::Coded { copies, deleted }),
-        None => Ok(Unindexed::Lost),
+    let checked = test_shards(alloc, site, volume, &copies)?;
+    Ok(with_shards(copies, checked))
+}
+
+// A volume with shards is coded where the tests answered what its files say, else lost.
+fn with_shards(copies: Vec<ShardCopy>, checked: Option<Checked>) -> ListedForm
+    ensures { result ≡ with_shards copies checked }
+{
+    match checked {
+        Some(checked) => ListedForm::Coded { copies, checked },
+        None => ListedForm::Lost,
     }
 }
 
 // A volume without index and shards is lost where a data file of it has more than a super block.
-fn without_shards(long: bool) -> Unindexed
+fn without_shards(long: bool) -> ListedForm
     ensures { result ≡ without_shards long }
 {
     if long {
-        Unindexed::Lost
+        ListedForm::Lost
     } else {
-        Unindexed::Absent
+        ListedForm::Absent
     }
 }
 

@@ -6,7 +6,7 @@ use Rattle.image_meaning.specs.Sound.{HasOneRatio, IsCoded}
 use Rattle.coded_volume.specs.Checking.{AreBelow, AreCopies, AreHolders, AreStanding, Breaks, IsChecked, TellsFirst, files_on}
 use Rattle.coded_volume.proofs.Standing.{are_below, holders_are}
 use Rattle.site_recovery.proofs.Placed.{homes_are}
-use Rattle.site_recovery.proofs.Sharded.{few_lost, enough_coded, tested_by, site_fails, ratios_fail, coded_fails, told_breaks}
+use Rattle.site_recovery.proofs.Sharded.{few_lost, enough_coded, found_by, site_fails, ratios_fail, coded_fails, told_breaks}
 use Rattle.site_recovery.proofs.testing.shards.test_shards.Goals as goal
 
 pub ratio_at-requires : goal.ratio_at-requires
@@ -95,5 +95,5 @@ returns-clause-found g c = λ told.
     let coded =
     enough_coded F c.in_ok-holders.holders holders (c.requires.no_index told) c.in_ok-ratio.ratio (c.in_ok-ratio.ensures.ratio told) c.homes_of-homes.result c.homes_of-homes.ensures.all homes c.count_homes.result c.count_homes.ensures
     (omega (arith, c.if-count_homes-from.false, c.from.ensures, c.data_count.ensures)) in
-    tested_by F c.in_ok-checked.checked coded
+    found_by F c.in_ok-checked.checked coded
     (subst (λ (d : Disk). IsChecked (files_on d.files c.args.volume) c.in_ok-checked.checked.info c.in_ok-checked.checked.deleted.items) (c.ratio_at.ensures.same told) (c.in_ok-checked.ensures.checked told))

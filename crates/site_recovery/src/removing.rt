@@ -1,0 +1,67 @@
+//! The removal of files that are listed. For the recovery of coded volumes, to come.
+ghost use Rattle.std.specs.Prelude.{◌≡◌, ◌<◌, ◌↔◌, IsTrue, IfErr, IsErrOf, OnOk};
+ghost use Rattle.file_names.specs.Names.{IsName};
+ghost use Rattle.site_model.specs.Counts.{Calls};
+ghost use Rattle.coded_volume.specs.Checking.{IsSiteFault};
+ghost use Rattle.site_recovery.specs.Changes.{TakesAway};
+ghost use Rattle.site_recovery.specs.Listing.{AreInOrder};
+ghost use Rattle.site_recovery.specs.Removing.{IsGoing, IsGoingAt, IsGoingAmong, AreGone, place_in};
+
+use crate::asking::clear_at;
+use crate::forms::{Goes, Listed};
+use file_names::spell;
+use site_model::{OpenFault, Site};
+use std::alloc::Global;
+
+/// Removes those of the files that go, in their order. No other file is asked for.
+pub(crate) fn remove_listed<T: Site>(
+    alloc: Global,
+    site: &mut T,
+    files: &[Listed],
+    goes: Goes,
+) -> Result<(), OpenFault>
+    requires { AreInOrder (T.servers site.old) files.now }
+    ensures effect { IsTrue T.tells → TakesAway (IsGoingAmong goes files.now) (T.disk site.old)
+        (T.disk site.new) }
+    ensures done { OnOk result (IsTrue T.tells → AreGone goes files.now (T.disk site.new).files) }
+    ensures why { IfErr result IsSiteFault }
+    ensures runs { Calls T.counts T.servers site.old site.new (λ s. IsErrOf result (OpenFault.Fault s)) }
+{
+    for listed in files {
+        remove_if(alloc, site, listed, goes)?;
+    }
+    Ok(())
+}
+
+// Removes the file, if it goes.
+fn remove_if<T: Site>(
+    alloc: Global,
+    site: &mut T,
+    listed: &Listed,
+    goes: Goes,
+) -> Result<(), OpenFault>
+    requires server { listed.now.server < T.servers site.old }
+    requires named { IsName listed.now.file }
+    ensures effect { IsTrue T.tells → TakesAway (IsGoingAt goes listed.now) (T.disk site.old)
+        (T.disk site.new) }
+    ensures done { OnOk result (IsTrue T.tells → IsGoing goes listed.now
+        → (T.disk site.new).files (place_in listed.now) ≡ None) }
+    ensures why { IfErr result IsSiteFault }
+    ensures runs { Calls T.counts T.servers site.old site.new (λ s. IsErrOf result (OpenFault.Fault s)) }
+{
+    if !is_going(listed, goes) {
+        return Ok(());
+    }
+    let name = spell(alloc, &listed.file)?;
+    clear_at(site, listed.server, &name)
+}
+
+fn is_going(listed: &Listed, goes: Goes) -> bool
+    ensures { IsTrue result ↔ IsGoing goes listed.now }
+{
+    match goes {
+        Goes::Temporary => listed.file.temp,
+        Goes::Coded => !listed.file.temp && listed.file.kind.is_coded(),
+        Goes::Final => !listed.file.temp,
+    }
+}

@@ -23,6 +23,7 @@ use Rattle.site_recovery.specs.declared.recovered.Recovered.{Recovered}
 use Rattle.site_recovery.specs.Recovering.{Finds, IsLeftPlain, IsRecovered, IsTidied}
 use Rattle.site_recovery.specs.Laws.Test.{left_long, left_only, never_sealed, not_coded}
 use Rattle.store_core.specs.declared.slot.Slot.{Slot}
+use Rattle.store_core.specs.Slots.{plain_slot}
 use Rattle.store_core.specs.declared.slot.Slot.TheVariants as slot
 use Rattle.store_core.specs.declared.store.Store.{Store}
 use Rattle.store_core.specs.Store.{slot_of, HoldsPlain, FitsVolume, IsOpenSlot, IsOpenedStore}
@@ -70,7 +71,7 @@ holds_left d v old new temps at sound none left number loaded =
 -- ---- all volumes
 
 module _ (tells : Bool) (told : IsTrue tells) (old new : Files) (servers : ℕ) (found : Recovered) (finds : Finds found servers old) (recovered : IsRecovered old new) (sound : IsSound (contents old)) where
-  fits_plain : (d : DatVolume) (sealed : Bool) (v : ℕ) → v < max_volumes → IsSlotOf tells new found.plain.items found.lost.items v (Some (slot.Plain d sealed))
+  fits_plain : (d : DatVolume) (sealed : Bool) (v : ℕ) → v < max_volumes → IsSlotOf tells new found.plain.items found.lost.items v (Some (plain_slot d sealed))
       → HoldsPlain d v (files_of (contents new) v) (temps_of (contents new) v)
   fits_plain d sealed v h is =
       let plain = (finds.plain v d.server).0 is.0 in
@@ -95,7 +96,7 @@ module _ (tells : Bool) (told : IsTrue tells) (old new : Files) (servers : ℕ) 
   fits_slot (Some slot.Lost) v h is =
       let was = ((finds.lost v).0 is).1 in
       ((recovered.1 v h).same_mode ∙ was, (recovered.1 v h).no_temps, subst HasOneRatio (sym ((recovered.1 v h).lost was)) ((sound v h).info_rule.lost was))
-  fits_slot (Some (slot.Plain d sealed)) v h is = fits_plain d sealed v h is
+  fits_slot (Some (slot.Plain p)) v h is = fits_plain p.volume p.sealed v h is
 
   -- one without a number has no slot
   none_beyond : (s : Option Slot) (v : ℕ) → max_volumes ≤ v → IsSlotOf tells new found.plain.items found.lost.items v s → s ≡ None
@@ -104,7 +105,7 @@ module _ (tells : Bool) (told : IsTrue tells) (old new : Files) (servers : ℕ) 
     where
       beyond : (v : ℕ) → max_volumes ≤ v → v < max_volumes → ⊥
       beyond v h k = absurd (omega (arith, h, k))
-  none_beyond (Some (slot.Plain d sealed)) v h is = absurd (beyond v h ((finds.plain v d.server).0 is.0).below)
+  none_beyond (Some (slot.Plain p)) v h is = absurd (beyond v h ((finds.plain v p.volume.server).0 is.0).below)
     where
       beyond : (v : ℕ) → max_volumes ≤ v → v < max_volumes → ⊥
       beyond v h k = absurd (omega (arith, h, k))
@@ -131,7 +132,7 @@ recovered_records old new recovered sound v h = by_mode (mode_of (files_of (cont
 open_slot : (tells : Bool) (files : Files) (plain : List (ℕ × ℕ)) (lost : List ℕ) (v : ℕ) (s : Option Slot) → IsSlotOf tells files plain lost v s → IsOpenSlot s
 open_slot tells files plain lost v None is = tt
 open_slot tells files plain lost v (Some slot.Lost) is = tt
-open_slot tells files plain lost v (Some (slot.Plain d sealed)) is = is.2
+open_slot tells files plain lost v (Some (slot.Plain p)) is = is.2
 
 pub opened_store : (tells : Bool) → IsTrue tells → (old new : Files) (servers : ℕ) (found : Recovered) (store : Store) → store.servers ≡ servers → Finds found servers old → IsRecovered old new → IsTidied old new → IsSound (contents old)
     → AreSlots tells new found.plain.items found.lost.items store.slots → IsOpenedStore store servers old new

@@ -1,5 +1,5 @@
 -- Which puts and deletions the store's world refuses, and what an accepted one makes of it.
-use Rattle.std.proofs.Common.{◌≡◌, ℕ, ◌+◌, ◌<◌, ◌^◌, Bool, true, false, List, [], ◌∷◌, length, Option, Some, None, refl, sym, ◌∙◌, ap, subst}
+use Rattle.std.proofs.Common.{◌≡◌, ℕ, ◌+◌, ◌<◌, Bool, true, false, List, [], ◌∷◌, length, Option, Some, None, refl, sym, ◌∙◌, ap, subst}
 use Rattle.std.specs.Prelude.{◌==◌, not, nat_lt, if◌then◌else◌, MatchOption}
 use Rattle.std.specs.Option.{option_map_or}
 use Rattle.std.specs.FinMap.{get as at_id}
@@ -24,7 +24,7 @@ use Rattle.store_core.specs.declared.slot.Slot.{Slot}
 use Rattle.store_core.specs.declared.slot.Slot.TheVariants as slot
 use Rattle.store_core.specs.declared.store.Store.{Store}
 use Rattle.store_core.specs.Lines.{Serves}
-use Rattle.store_core.specs.Slots.{unreadable}
+use Rattle.store_core.specs.Slots.{plain_slot, unreadable}
 use Rattle.store_core.specs.Refusals.{content_refusal, put_refusal, delete_refusal}
 use Rattle.store_core.specs.Changes.{needle_refusal}
 use Rattle.store_core.specs.Store.{slot_of, HoldsPlain, Fits, store_world}
@@ -111,7 +111,7 @@ module _ (store : Store) (servers : ℕ) (files : Files) (fits : Fits store serv
       ∷ when (has_other_cookie vol.needles id cookie) refusal.Cookie
       ∷ []
 
-  module _ (d : DatVolume) (had : slot_of store v ≡ Some (slot.Plain d false)) where
+  module _ (d : DatVolume) (had : slot_of store v ≡ Some (plain_slot d false)) where
     -- the records of the volume, and the volume
     abbrev plain : HoldsPlain d v (files_of (contents files) v) (temps_of (contents files) v)
     plain = holds store servers files fits v below d false had
@@ -167,22 +167,29 @@ module _ (store : Store) (servers : ℕ) (files : Files) (fits : Fits store serv
     }
 
   -- what the slot refuses the world does
+  put_by_seal : (content : Content) (why : Refusal) (d : DatVolume) (sealed : Bool) → slot_of store v ≡ Some (plain_slot d sealed) → put_refusal (Some (plain_slot d sealed)) content store.settings.limit ≡ Some why
+      → refusal_of world (line.Put v id cookie content) ≡ Some why
+  put_by_seal content why d true e p =
+      readable_rows d true (world.volumes v) ((holds store servers files fits v below d true e).ps, holds_there store servers files fits v below d true e) (put_tests content) ∙ p
+  put_by_seal content why d false e p =
+      put_refuses d e content ∙ ap (λ o. or_else o (when (has_other_cookie (fold_records (holds store servers files fits v below d false e).ps).needles id cookie) refusal.Cookie)) p
+
   put_by_slot : (content : Content) (why : Refusal) (s : Option Slot) → slot_of store v ≡ s → put_refusal s content store.settings.limit ≡ Some why → refusal_of world (line.Put v id cookie content) ≡ Some why
   put_by_slot content why None e p = unreadable_refuses (slot_of store v) (world.volumes v) (world_has store servers files fits v below) why (ap unreadable e ∙ p) (put_tests content)
   put_by_slot content why (Some slot.Lost) e p = unreadable_refuses (slot_of store v) (world.volumes v) (world_has store servers files fits v below) why (ap unreadable e ∙ p) (put_tests content)
-  put_by_slot content why (Some (slot.Plain d true)) e p =
-      readable_rows d true (world.volumes v) ((holds store servers files fits v below d true e).ps, holds_there store servers files fits v below d true e) (put_tests content) ∙ p
-  put_by_slot content why (Some (slot.Plain d false)) e p =
-      put_refuses d e content ∙ ap (λ o. or_else o (when (has_other_cookie (fold_records (holds store servers files fits v below d false e).ps).needles id cookie) refusal.Cookie)) p
+  put_by_slot content why (Some (slot.Plain plain)) e p = put_by_seal content why plain.volume plain.sealed e p
+
+  delete_by_seal : (why : Refusal) (d : DatVolume) (sealed : Bool) → slot_of store v ≡ Some (plain_slot d sealed) → delete_refusal (Some (plain_slot d sealed)) ≡ Some why → refusal_of world (line.Delete v id cookie) ≡ Some why
+  delete_by_seal why d true e p =
+      readable_rows d true (world.volumes v) ((holds store servers files fits v below d true e).ps, holds_there store servers files fits v below d true e) delete_tests ∙ p
+  delete_by_seal why d false e p =
+      delete_refuses d e ∙ ap (λ o. or_else o (first (when (has_none (fold_records (holds store servers files fits v below d false e).ps).needles id) refusal.NotFound
+      ∷ when (has_other_cookie (fold_records (holds store servers files fits v below d false e).ps).needles id cookie) refusal.Cookie ∷ []))) p
 
   delete_by_slot : (why : Refusal) (s : Option Slot) → slot_of store v ≡ s → delete_refusal s ≡ Some why → refusal_of world (line.Delete v id cookie) ≡ Some why
   delete_by_slot why None e p = unreadable_refuses (slot_of store v) (world.volumes v) (world_has store servers files fits v below) why (ap unreadable e ∙ p) delete_tests
   delete_by_slot why (Some slot.Lost) e p = unreadable_refuses (slot_of store v) (world.volumes v) (world_has store servers files fits v below) why (ap unreadable e ∙ p) delete_tests
-  delete_by_slot why (Some (slot.Plain d true)) e p =
-      readable_rows d true (world.volumes v) ((holds store servers files fits v below d true e).ps, holds_there store servers files fits v below d true e) delete_tests ∙ p
-  delete_by_slot why (Some (slot.Plain d false)) e p =
-      delete_refuses d e ∙ ap (λ o. or_else o (first (when (has_none (fold_records (holds store servers files fits v below d false e).ps).needles id) refusal.NotFound
-      ∷ when (has_other_cookie (fold_records (holds store servers files fits v below d false e).ps).needles id cookie) refusal.Cookie ∷ []))) p
+  delete_by_slot why (Some (slot.Plain plain)) e p = delete_by_seal why plain.volume plain.sealed e p
 
 -- a line that is refused, and nothing changes
 pub refused_serves : (l : Line) (store : Store) (servers : ℕ) (disk : Disk) (why : Refusal) → Fits store servers disk.files → Allowed (store_world store (contents disk.files)) (grammatical l) (reply.Refused why)

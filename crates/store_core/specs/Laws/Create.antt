@@ -4,7 +4,7 @@ use Rattle.std.specs.Prelude.{◌==◌, nat_lt, not, if◌then◌else◌, option
 use Rattle.std.specs.FinMap.{empty}
 use Rattle.std.proofs.lemmas.Bool.{lt-ltb, le-ltb, eq-eqb, ne_eqb, cases_eq, cases_lt}
 use mathlib.Core.Bool.{true≢false}
-use Rattle.site_model.specs.Disk.{File, Place, Files, Image, firm_file, IsFirm, Disk, IsSettled}
+use Rattle.site_model.specs.Disk.{File, Place, Files, Image, IsFirm, Disk, IsSettled}
 use Rattle.site_model.specs.Disk as disk
 use Rattle.site_model.specs.Leaves.{Leaves, place_cases, both, weaker}
 use Rattle.site_model.specs.Touches.{Touches, firm_left, touches_look, touches_more}
@@ -90,7 +90,7 @@ make_others store v server old new (inr making) k other = making.1.touches.other
 existing : (s : Option Slot) (it : Option Volume) → HasOfSlot s it → option_map (λ _. refusal.Exists) it ≡ made_before s
 existing None it has = ap (option_map (λ _. refusal.Exists)) has
 existing (Some slot.Lost) it has = ap (option_map (λ _. refusal.Exists)) has
-existing (Some (slot.Plain d sealed)) it has = ap (option_map (λ _. refusal.Exists)) has.1
+existing (Some (slot.Plain p)) it has = ap (option_map (λ _. refusal.Exists)) has.1
 
 create_rows : (at_one : Bool) (s : Option Slot) → first (when (not at_one) refusal.NoServer ∷ made_before s ∷ []) ≡ (if at_one then made_before s else Some refusal.NoServer)
 create_rows false s = refl

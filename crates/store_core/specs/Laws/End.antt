@@ -47,20 +47,20 @@ fits_tidy (Some slot.Lost) v files temps fits = record {
   coded = λ c. absurd (lost_no_other files fits.0 (Some mode.Coded) c not_coded);
   absent = λ a. absurd (lost_no_other files fits.0 None a not_absent);
 }
-fits_tidy (Some (slot.Plain d sealed)) v files temps fits = alone_tidy files temps d.server fits.dat fits.idx fits.alone fits.ps fits.exact fits.no_temps
+fits_tidy (Some (slot.Plain p)) v files temps fits = alone_tidy files temps p.volume.server fits.dat fits.idx fits.alone fits.ps fits.exact fits.no_temps
 
 -- what its files mean is near what is in memory
 fits_near : (s : Option Slot) (v : ℕ) (files temps : VolumeFiles) → FitsVolume s v files temps → NearVolume false (option_map (marked_by s) (volume_of files)) (volume_of files)
 fits_near None v files temps fits = subst (λ o. NearVolume false (option_map (marked_by None) o) o) (sym (absent_means files (no_files_absent files fits.0))) tt
 fits_near (Some slot.Lost) v files temps fits = subst (λ o. NearVolume false (option_map (marked_by (Some slot.Lost)) o) o) (sym (lost_means files fits.0)) (refl, refl, refl)
-fits_near (Some (slot.Plain d sealed)) v files temps fits =
-    subst (λ o. NearVolume false (option_map (marked_by (Some (slot.Plain d sealed))) o) o) (sym (holds_means d v files temps fits))
-    (near_marked sealed (fold_records fits.ps) (fold_records-mode fits.ps))
+fits_near (Some (slot.Plain p)) v files temps fits =
+    subst (λ o. NearVolume false (option_map (marked_by (Some (slot.Plain p))) o) o) (sym (holds_means p.volume v files temps fits))
+    (near_marked p.sealed (fold_records fits.ps) (fold_records-mode fits.ps))
 
 fits_not_coded : (s : Option Slot) (v : ℕ) (files temps : VolumeFiles) → FitsVolume s v files temps → IsCoded files → ⊥
 fits_not_coded None v files temps fits coded = absent_not_coded (sym (absent_mode files (no_files_absent files fits.0)) ∙ coded)
 fits_not_coded (Some slot.Lost) v files temps fits coded = lost_no_other files fits.0 (Some mode.Coded) coded not_coded
-fits_not_coded (Some (slot.Plain d sealed)) v files temps fits coded = not_both files (alone_plain files temps d.server fits.dat fits.idx fits.alone) coded
+fits_not_coded (Some (slot.Plain p)) v files temps fits coded = not_both files (alone_plain files temps p.volume.server fits.dat fits.idx fits.alone) coded
 
 some_is : (vol other : Volume) → Some vol ≡ Some other → vol ≡ other
 some_is vol other e = cc

@@ -25,7 +25,7 @@ use Rattle.image_meaning.specs.Times.{records_in, records_of}
 use Rattle.image_meaning.specs.Laws.Times.{alone_records, exact_records}
 use Rattle.dat_volume.specs.declared.volume.DatVolume.{DatVolume}
 use Rattle.dat_volume.specs.Places.{dat_place, idx_place, IsOneOfTwo, AreFirmRecords, LeavesRecords}
-use Rattle.store_core.specs.declared.slot.Slot.TheVariants as slot
+use Rattle.store_core.specs.Slots.{plain_slot}
 use Rattle.store_core.specs.declared.store.Store.{Store}
 use Rattle.store_core.specs.Store.{slot_of, FitsVolume, HoldsPlain, Fits, sealed_by, marked_by, store_world}
 use Rattle.store_core.specs.Lines.{IsLeftNear}
@@ -41,7 +41,7 @@ firm_is (Some file) bytes firm e =
     (λ i. Some (record { bytes = file.bytes; firm = firm.0 i; is_named = firm.1 i })) ∙ ap (λ b. Some (firm_file b)) same
 
 module _ (store : Store) (servers : ℕ) (files : Files) (fits : Fits store servers files)
-    (v : ℕ) (below : v < max_volumes) (d : DatVolume) (sealed : Bool) (had : slot_of store v ≡ Some (slot.Plain d sealed)) where
+    (v : ℕ) (below : v < max_volumes) (d : DatVolume) (sealed : Bool) (had : slot_of store v ≡ Some (plain_slot d sealed)) where
   pub holds : HoldsPlain d v (files_of (contents files) v) (temps_of (contents files) v)
   holds = subst (λ s. FitsVolume s v (files_of (contents files) v) (temps_of (contents files) v)) had (fits.each v below)
 

@@ -55,13 +55,13 @@ pub fits_shows : (s : Option Slot) (v : ℕ) (files temps : VolumeFiles) → Fit
 fits_shows None v files temps fits =
     let absent = no_files_absent files fits.0 in inl (absent_mode files absent, ap (option_map (marked_by None)) (absent_means files absent))
 fits_shows (Some slot.Lost) v files temps fits = inr (inl (fits.0, ap (option_map (marked_by (Some slot.Lost))) (lost_means files fits.0)))
-fits_shows (Some (slot.Plain d sealed)) v files temps fits = inr (inr (
+fits_shows (Some (slot.Plain p)) v files temps fits = inr (inr (
   fold_records fits.ps,
-  sealed,
-  alone_plain files temps d.server fits.dat fits.idx fits.alone,
-  holds_means d v files temps fits,
+  p.sealed,
+  alone_plain files temps p.volume.server fits.dat fits.idx fits.alone,
+  holds_means p.volume v files temps fits,
   fold_records-mode fits.ps,
-  ap (option_map (marked_by (Some (slot.Plain d sealed)))) (holds_means d v files temps fits),
+  ap (option_map (marked_by (Some (slot.Plain p)))) (holds_means p.volume v files temps fits),
 ))
 
 -- and the files are sound
@@ -74,8 +74,8 @@ fits_sound (Some slot.Lost) v files temps fits = sound_neither files (λ p. not_
 
     not_coded : Some mode.Lost ≡ Some mode.Coded → ⊥
     not_coded e = cc
-fits_sound (Some (slot.Plain d sealed)) v files temps fits =
-    alone_sound files temps d.server fits.dat fits.idx fits.alone (exact_follows fits.dat fits.idx fits.ps fits.exact) fits.super
+fits_sound (Some (slot.Plain p)) v files temps fits =
+    alone_sound files temps p.volume.server fits.dat fits.idx fits.alone (exact_follows fits.dat fits.idx fits.ps fits.exact) fits.super
 
 -- what a loss leaves of a volume is near what was shown
 pub near_marked : (sealed : Bool) (vol : Volume) → vol.mode ≡ mode.Plain → NearVolume false (Some (sealed_by sealed vol)) (Some vol)

@@ -19,7 +19,7 @@ use Rattle.dat_volume.specs.declared.volume.DatVolume.{DatVolume}
 use Rattle.store_core.specs.declared.slot.Slot.{Slot}
 use Rattle.store_core.specs.declared.slot.Slot.TheVariants as slot
 use Rattle.store_core.specs.declared.store.Store.{Store}
-use Rattle.store_core.specs.Slots.{unreadable, with_seal}
+use Rattle.store_core.specs.Slots.{plain_slot, unreadable, with_seal}
 use Rattle.store_core.specs.Store.{slot_of, FitsVolume, Fits, sealed_by, marked_by, store_world}
 use Rattle.store_core.specs.Laws.Store.{fold_records-mode, lost_means, holds_means, store_has}
 use Rattle.store_core.specs.Lines.{Serves}
@@ -30,12 +30,12 @@ use Rattle.store_core.specs.Lines.{Serves}
 abbrev pub HasOfSlot : Option Slot → Option Volume → Type 0
 HasOfSlot None it = it ≡ None
 HasOfSlot (Some slot.Lost) it = it ≡ Some lost_volume
-HasOfSlot (Some (slot.Plain d sealed)) it = (ps : List Placed) × (it ≡ Some (sealed_by sealed (fold_records ps)))
+HasOfSlot (Some (slot.Plain p)) it = (ps : List Placed) × (it ≡ Some (sealed_by p.sealed (fold_records ps)))
 
 slot_has : (s : Option Slot) (v : ℕ) (files temps : VolumeFiles) → FitsVolume s v files temps → HasOfSlot s (option_map (marked_by s) (volume_of files))
 slot_has None v files temps fits = ap (option_map (marked_by None)) (absent_means files (no_files_absent files fits.0))
 slot_has (Some slot.Lost) v files temps fits = ap (option_map (marked_by (Some slot.Lost))) (lost_means files fits.0)
-slot_has (Some (slot.Plain d sealed)) v files temps fits = (fits.ps, ap (option_map (marked_by (Some (slot.Plain d sealed)))) (holds_means d v files temps fits))
+slot_has (Some (slot.Plain p)) v files temps fits = (fits.ps, ap (option_map (marked_by (Some (slot.Plain p)))) (holds_means p.volume v files temps fits))
 
 pub world_has : (store : Store) (servers : ℕ) (files : Files) → Fits store servers files → (v : ℕ) → v < max_volumes → HasOfSlot (slot_of store v) ((store_world store (contents files)).volumes v)
 world_has store servers files fits v h =
@@ -61,10 +61,10 @@ rows_on it rows = option_map_or (λ vol. first (when (is_lost vol.mode) refusal.
 pub unreadable_refuses : (s : Option Slot) (it : Option Volume) → HasOfSlot s it → (why : Refusal) → unreadable s ≡ Some why → (rows : Volume → List (Option Refusal)) → rows_on it rows ≡ Some why
 unreadable_refuses None it has why e rows = ap (λ o. rows_on o rows) has ∙ e
 unreadable_refuses (Some slot.Lost) it has why e rows = ap (λ o. rows_on o rows) has ∙ e
-unreadable_refuses (Some (slot.Plain d sealed)) it has why e rows = absurd cc
+unreadable_refuses (Some (slot.Plain p)) it has why e rows = absurd cc
 
 -- one that can be read refuses what the line's own rows do
-pub readable_rows : (d : DatVolume) (sealed : Bool) (it : Option Volume) (has : HasOfSlot (Some (slot.Plain d sealed)) it) (rows : Volume → List (Option Refusal)) → rows_on it rows ≡ first (rows (sealed_by sealed (fold_records has.0)))
+pub readable_rows : (d : DatVolume) (sealed : Bool) (it : Option Volume) (has : HasOfSlot (Some (plain_slot d sealed)) it) (rows : Volume → List (Option Refusal)) → rows_on it rows ≡ first (rows (sealed_by sealed (fold_records has.0)))
 readable_rows d sealed it has rows =
     ap (λ o. rows_on o rows) has.1 ∙ ap (λ b. first (when b refusal.Lost ∷ rows (sealed_by sealed (fold_records has.0)))) (not_lost sealed has.0)
 
@@ -91,9 +91,9 @@ resealed false false vol e = λ i. record { mode = e i; used = vol.used; needles
 
 -- where the slots are as before but for a mark
 module _ (old new : Store) (servers v : ℕ) (sealed : Bool) (d : Disk) (below : v < max_volumes) (fits : Fits old servers d.files) (dat : DatVolume) (was : Bool)
-    (had : slot_of old v ≡ Some (slot.Plain dat was)) (same_servers : new.servers ≡ old.servers) (same_limit : new.settings.limit ≡ old.settings.limit)
+    (had : slot_of old v ≡ Some (plain_slot dat was)) (same_servers : new.servers ≡ old.servers) (same_limit : new.settings.limit ≡ old.settings.limit)
     (slots : (q : ℕ) → slot_of new q ≡ (if q == v then option_map (with_seal sealed) (slot_of old q) else slot_of old q)) where
-  slot_there : slot_of new v ≡ Some (slot.Plain dat sealed)
+  slot_there : slot_of new v ≡ Some (plain_slot dat sealed)
   slot_there = slots v ∙ ap (λ b. cond b (option_map (with_seal sealed) (slot_of old v)) (slot_of old v)) (eq-eqb v v refl) ∙ ap (option_map (with_seal sealed)) had
 
   slot_elsewhere : (q : ℕ) → q ≢ v → slot_of new q ≡ slot_of old q
@@ -144,7 +144,7 @@ module _ (old new : Store) (servers v : ℕ) (sealed : Bool) (d : Disk) (below :
   mark_done = record {
     allowed =
         let w = store_world old (contents d.files) in
-        let has : HasOfSlot (Some (slot.Plain dat was)) (w.volumes v) = subst (λ s. HasOfSlot s (w.volumes v)) had (world_has old servers d.files fits v below) in
+        let has : HasOfSlot (Some (plain_slot dat was)) (w.volumes v) = subst (λ s. HasOfSlot s (w.volumes v)) had (world_has old servers d.files fits v below) in
         let free : refusal_of w (line.Mark v sealed) ≡ None =
         readable_rows dat was (w.volumes v) has (λ vol. None ∷ when (is_coded vol.mode) refusal.Coded ∷ [])
         ∙ ap (λ b. first (None ∷ when b refusal.Coded ∷ [])) (not_coded was has.0) in

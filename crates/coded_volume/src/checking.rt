@@ -12,6 +12,7 @@ mod journals;
 mod lengths;
 mod texts;
 
+pub use crate::checking::asking::{piece_at, size_at};
 pub use crate::checking::holders::{Holders, holders_of};
 use crate::checking::indexes::check_indexes;
 use crate::checking::journals::check_journals;

@@ -8,7 +8,7 @@ mod reading;
 mod searching;
 mod volume;
 
-pub use checking::{Checked, Holders, ShardCopy, check, holders_of, info_at};
+pub use checking::{Checked, Holders, ShardCopy, check, holders_of, info_at, piece_at, size_at};
 pub use volume::CodedVolume;
 
 #[cfg(test)]

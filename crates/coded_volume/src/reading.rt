@@ -18,8 +18,9 @@ use file_names::{Kind, final_name};
 use needle_record::{HEADER_LENGTH, Record, read_header, take_record};
 use shard_table::ShardTable;
 use site_model::Site;
-use std::alloc::{AllocError, Global};
+use std::alloc::Global;
 use volume_forms::Entry;
+use whole_file::zeros;
 use world_model::types::What;
 
 impl CodedVolume {
@@ -234,10 +235,4 @@ fn check_end(place: Place, dat_size: u64) -> Result<(), GetFault>
         });
     }
     Ok(())
-}
-
-fn zeros(alloc: Global, count: usize) -> Result<Vec<u8>, AllocError>
-    ensures { IfOk result (λ bytes. length bytes.items ≡ count) }
-{
-    vec![in alloc; 0; count]
 }

@@ -1,9 +1,9 @@
 -- Two files cut one after the other.
-use Rattle.std.proofs.Common.{◌≡◌, ◌≢◌, ◌⊎◌, inl, inr, ⊎_elim, ℕ, List, sym, ◌∙◌, ap, subst}
+use Rattle.std.proofs.Common.{◌≡◌, ◌≢◌, ◌⊎◌, inl, inr, ⊎_elim, ℕ, List, sym, ap, subst}
 use Rattle.site_model.specs.Disk.{Place, LeftOf, cut_to, Disk}
 use Rattle.site_model.specs.Leaves.{joins, weaker}
 use Rattle.site_model.specs.Touches.{Touches, At, touches_on, touches_more}
-use Rattle.dat_volume.specs.Shortening.{Shortens, ShortensBoth, AreShortened}
+use Rattle.dat_volume.specs.Shortening.{Shortens, ShortensBoth}
 
 touches_shorten : {p : Place} {n : ℕ} {old new : Disk} → Shortens p n old new → Touches (At p) old new
 touches_shorten did = record { leaves = weaker did.leaves (λ image said left. (left.0.0, left.1)); others = did.others; said = did.said }

@@ -1,5 +1,5 @@
 -- Whether the record at an entry's place is the entry's, by what the readers of records tell.
-use Rattle.std.proofs.Common.{◌≡◌, ℕ, ◌*◌, ◌/◌, ◌<◌, ◌≤◌, List, length, take, drop, Bool, true, false, cond, ℤ, pos, negsuc, Option, Some, None, Result, Ok, refl, sym, ◌∙◌, ap, subst, arith}
+use Rattle.std.proofs.Common.{◌≡◌, ℕ, ◌*◌, ◌/◌, ◌≤◌, List, length, take, drop, Bool, true, false, cond, ℤ, pos, negsuc, Option, Some, None, Result, Ok, refl, sym, ◌∙◌, ap, subst, arith}
 use Rattle.std.specs.Prelude.{◌==◌, not, nat_lt, nat_le, IfOk}
 use Rattle.std.proofs.lemmas.Bool.{eqb-true, ne_eqb, ltb-true, le-leb, not-false, and_from, false_from_ne_true, false≢true}
 use Rattle.std.proofs.lemmas.List.{take_all}
@@ -17,7 +17,7 @@ use Rattle.world_model.specs.Sizes.{max_dat}
 use Rattle.site_model.specs.declared.error.OpenFault.{OpenFault}
 use Rattle.dat_volume.specs.declared.fault.GetFault.{GetFault}
 use Rattle.dat_volume.specs.declared.fault.GetFault.TheVariants as get_fault
-use Rattle.dat_volume.specs.Needles.{Damage, damage_of, bytes_from, header_damage, reading_damage, first_damage, record_damage, TellsDamage}
+use Rattle.dat_volume.specs.Needles.{Damage, damage_of, bytes_from, header_damage, TellsDamage}
 use Rattle.dat_volume.specs.Reading.{front_damage}
 use Rattle.dat_volume.specs.Opening.{is_size, is_entry_of, has_record}
 use Rattle.dat_volume.specs.Laws.Opening.{HasFound, has_found}

@@ -15,6 +15,7 @@ use shard_table::ShardTable;
 use site_model::{DeviceFault, PIECE, Site};
 use std::alloc::{AllocError, Global};
 use stripe_layout::{Info, Piece};
+use whole_file::zeros;
 
 // How many data shards the widest ratio has.
 const MOST_DATA: usize = 12;
@@ -46,12 +47,6 @@ pub(crate) fn names_of(alloc: Global, volume: u32) -> Result<Vec<String>, AllocE
         names.push(spell(alloc, &name)?)?;
     }
     Ok(names)
-}
-
-fn zeros(alloc: Global, size: usize) -> Result<Vec<u8>, AllocError>
-    ensures { IfOk result (λ v. length v.items ≡ size) }
-{
-    vec![in alloc; 0; size]
 }
 
 impl Reader {

@@ -2,11 +2,11 @@
 use Rattle.std.specs.Prelude.{◌≡◌, ℕ, zero, suc, Bool, false, true, is_some, if◌then◌else◌, ◌&&◌, List, [], Option, Some, None, filter, unwrap_or}
 use Rattle.std.specs.List.{list_any, range_with_len}
 use Rattle.site_model.specs.Counts.{max_servers}
-use Rattle.site_model.specs.Disk.{Place, Files, Image}
+use Rattle.site_model.specs.Disk.{Files, Image}
 use Rattle.site_model.specs.Disk as disk
 use Rattle.file_names.specs.declared.Kind.{Kind}
 use Rattle.file_names.specs.declared.Kind.TheVariants.{Shard, Dat, Idx, Cpd, Cpx}
-use Rattle.file_names.specs.Names.{name_bytes, max_shards, place_of}
+use Rattle.file_names.specs.Names.{max_shards, place_of}
 
 -- what stands on a site
 abbrev pub contents : Files → Image

@@ -1,13 +1,10 @@
 -- The smallest plan: so many steps that touch no file. It follows none, so nothing is claimed of what it makes of a volume.
-use Rattle.std.proofs.Common.{◌≡◌, ℕ, ◌<◌, ◌≤◌, [], Option, Some, None, refl, sym, ◌∙◌, arith}
-use Rattle.site_model.specs.Disk.{Disk}
-use Rattle.site_model.specs.Touches.{touches_none}
+use Rattle.std.proofs.Common.{◌≡◌, ℕ, [], Option, Some, None}
 use Rattle.world_model.specs.declared.types.Command.TheVariants.{Decode}
 use Rattle.world_model.specs.declared.types.Ratio.TheVariants.{ThreeTwo}
 use Rattle.shard_table.specs.Table.{place_in}
-use Rattle.image_meaning.specs.Share.{few_none, few_more}
 use Rattle.plan_steps.specs.Ending.{HasNoPlaces}
-use Rattle.plan_steps.specs.AnyPlans.{Plans, Tries, Runs}
+use Rattle.plan_steps.specs.AnyPlans.{Plans}
 
 pub no_place : (o : Option ℕ) (server : ℕ) → o ≡ None → o ≡ Some server → ⊥
 no_place None server none some = cc

@@ -1,13 +1,12 @@
 -- A table that gets the places of a volume one by one.
 use Rattle.std.proofs.Common.{◌≡◌, ⊎_elim, ℕ, ◌+◌, ◌<◌, length, length-set, get_or-set_same, get_or-set_other, ext_get_or, Option, None, slice_set, sym, ◌∙◌, ap, subst, arith}
-use Rattle.std.specs.Prelude.{if◌then◌else◌, unwrap_or}
-use Rattle.std.specs.Ordering.{nat_cmp, is_eq}
+use Rattle.std.specs.Prelude.{if◌then◌else◌}
+use Rattle.std.specs.Ordering.{is_eq}
 use Rattle.std.specs.Cmp.{nat_cmp_total, tied_itself}
 use Rattle.std.proofs.lemmas.Bool.{cases_eq}
-use Rattle.std.specs.FinMap.{empty, get-empty}
 use Rattle.file_names.specs.Names.{max_shards}
-use Rattle.shard_table.specs.Table.{Row, Table, no_places, place_in, row_of, with_place, with_volume}
-use Rattle.shard_table.specs.Laws.Table.{row_of-with_place, row_of-with_volume}
+use Rattle.shard_table.specs.Table.{Row, Table, place_in, row_of, with_place}
+use Rattle.shard_table.specs.Laws.Table.{row_of-with_place}
 
 -- the row of the volume itself
 pub row_set : (t : Table) (volume shard : ℕ) (place : Option ℕ) → row_of (with_place t volume shard place) volume ≡ slice_set (row_of t volume) shard place
@@ -17,15 +16,6 @@ row_set t volume shard place = row_of-with_place t volume shard place volume ∙
 pub record IsCopied (k : ℕ) (row copy : Row) : Type 0 where
   pub long : length copy ≡ max_shards
   pub same : (i : ℕ) → i < k → place_in copy i ≡ place_in row i
-
-pub none_copied : (servers volume : ℕ) (row : Row) → IsCopied 0 row (row_of (with_volume (record { servers = servers; rows = empty }) volume) volume)
-none_copied servers volume row = record {
-  long = ap length (row_of-with_volume (record { servers = servers; rows = empty }) volume volume) ∙ none_there;
-  same = λ i h. absurd (omega (arith, h));
-}
-  where
-    none_there : length (row_of (record { servers = servers; rows = empty }) volume) ≡ max_shards
-    none_there = ap (λ (o : Option Row). length (unwrap_or o no_places)) (get-empty {X = Row} nat_cmp volume)
 
 pub one_copied : (k : ℕ) (row copy : Row) → k < max_shards → IsCopied k row copy → IsCopied (k + 1) row (slice_set copy k (place_in row k))
 one_copied k row copy h so_far = record {

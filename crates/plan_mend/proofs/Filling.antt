@@ -39,9 +39,6 @@ pub record IsFilling (servers : ℕ) (row : Row) (k : ℕ) (now : Row) (targets 
   pub is : now ≡ filled row targets
   pub ahead : (i : ℕ) → k ≤ i → place_in now i ≡ place_in row i
 
-pub filling_begins : (servers : ℕ) (row : Row) (targets : List (ℕ × ℕ)) → targets ≡ [] → IsFilling servers row 0 row targets
-filling_begins servers row targets none = subst (IsFilling servers row 0 row) (sym none) (record { are = tt; is = refl; ahead = λ i h. refl })
-
 missing_more : (row : Row) (k : ℕ) → filter (is_missing row) (range_with_len 0 (k + 1)) ≡ filter (is_missing row) (range_with_len 0 k) ++ cond (is_missing row k) (k ∷ []) []
 missing_more row k =
     let last : 0 + k ≡ k = omega arith in

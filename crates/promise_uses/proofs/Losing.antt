@@ -1,5 +1,5 @@
 -- What no loss leaves, and what is meant of lost volumes.
-use Rattle.std.proofs.Common.{◌≡◌, ℕ, Bool, true, false, List, Option, Some, None, refl, sym, ◌∙◌, ap, subst}
+use Rattle.std.proofs.Common.{◌≡◌, ℕ, Bool, true, false, Option, Some, None, refl, sym, ◌∙◌, ap, subst}
 use Rattle.std.specs.Prelude.{if◌then◌else◌, nat_lt, IsSome, option_map}
 use mathlib.Core.Bool.{true≢false}
 use Rattle.site_model.specs.Disk.{Image}
@@ -13,8 +13,8 @@ use Rattle.needle_record.specs.Records.{fold_records}
 use Rattle.store_core.specs.Laws.Store.{fold_records-mode}
 use Rattle.image_meaning.specs.Plain.{index_home, kept_at, plain_volume}
 use Rattle.image_meaning.specs.Coded.{coded_volume}
-use Rattle.image_meaning.specs.Meaning.{mode_of, volume_of, volume_by, volume_in, max_volumes, meaning}
-use Rattle.image_meaning.specs.Ends.{IsSurvivable, MayHave}
+use Rattle.image_meaning.specs.Meaning.{mode_of, volume_of, volume_by, max_volumes, meaning}
+use Rattle.image_meaning.specs.Ends.{IsSurvivable}
 use Rattle.image_meaning.specs.Laws.PlainLoss.{plain_home}
 use Rattle.image_meaning.specs.Laws.LossLaw.{coded_form}
 use Rattle.promise_uses.proofs.Steps.{IsEmptyIfLost, LostAreEmpty}

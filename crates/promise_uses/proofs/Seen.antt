@@ -7,7 +7,7 @@ use Rattle.world_model.specs.declared.types.Reply.{Reply}
 use Rattle.script_text.specs.Texts.{text_of, reply_text}
 use Rattle.script_text.specs.Laws.Text.{line_feeds, reply_text-no_feed, text_of-one_feed}
 use Rattle.weed_shell.specs.Observed.{ready_text, text_with}
-use Rattle.weed_shell.specs.Stops.{was_ready, said_since}
+use Rattle.weed_shell.specs.Stops.{said_since}
 use Rattle.weed_shell.specs.Stops as stops
 use Rattle.promise_uses.specs.Lives.{WholeLinesAreReplies}
 

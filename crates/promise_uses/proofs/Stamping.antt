@@ -1,5 +1,5 @@
 -- Over a clock that stands still the needle of the one start has its time.
-use Rattle.std.proofs.Common.{◌≡◌, inl, inr, ℕ, zero, suc, ◌<◌, Bool, true, false, List, [], ◌∷◌, ◌++◌, length, take, Option, Some, None, refl, sym, ◌∙◌, ap, subst, arith}
+use Rattle.std.proofs.Common.{◌≡◌, inl, inr, ℕ, zero, suc, Bool, true, false, List, [], ◌∷◌, ◌++◌, length, take, Option, Some, None, refl, sym, ◌∙◌, ap, subst, arith}
 use Rattle.std.specs.Prelude.{IsTrue, if◌then◌else◌, drop, slice_get, Contains, MatchBool}
 use Rattle.std.proofs.Math.Seq.{drop-length}
 use Rattle.std.specs.List.{concat}
@@ -19,7 +19,7 @@ use Rattle.weed_shell.specs.Stops.{said_since, LeftByStop}
 use Rattle.weed_shell.specs.Stops as stops
 use Rattle.weed_shell.specs.Times.{written_at, IsTimed, AreTimed, IsTimedNext, TimesAfter, TimesLeft}
 use Rattle.promise_uses.specs.Starts.{three_lines, get_line, two_answers, NeedleHasTime}
-use Rattle.promise_uses.proofs.Starting.{AreDone, next_is_get, two_ready, two_answered, two_done}
+use Rattle.promise_uses.proofs.Starting.{next_is_get, two_ready, two_answered, two_done}
 
 -- what a call may tell of a clock that stands still
 abbrev pub fixed_gives : FixedClock → ℕ → FixedClock → Type 0

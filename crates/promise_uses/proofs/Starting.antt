@@ -37,7 +37,7 @@ use Rattle.store_core.specs.Lines.{IsNearOrNext}
 use Rattle.weed_shell.specs.Observed.{Start, Run, opening_image, first_world, lines_of, world_at, ready_text, text_with, is_fault_of}
 use Rattle.weed_shell.specs.Answers.{AreCounted, is_fault_status}
 use Rattle.weed_shell.specs.Headline.{IsAnswered}
-use Rattle.weed_shell.specs.Stops.{said_since, was_ready, SaidByThen, AfterReady, BeforeReady, LeftByStop}
+use Rattle.weed_shell.specs.Stops.{said_since, was_ready, AfterReady, BeforeReady, LeftByStop}
 use Rattle.weed_shell.specs.Stops as stops
 use Rattle.promise_uses.specs.Starts.{ScriptIsRead, no_files, get_line, three_lines, two_answers, with_one, MeansOne, NeedleStays, IsFoundIn, NextRunFinds}
 

@@ -1,4 +1,4 @@
-mod Rows
+mod Examples
 pub mod WordLaws
 pub mod NumberLaws
 pub mod RatioLaws

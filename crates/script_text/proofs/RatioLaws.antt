@@ -1,5 +1,5 @@
 -- What is no text is no ratio.
-use Rattle.std.proofs.Common.{◌≡◌, true, false, List, ℕ, Option, None, refl, sym, ◌∙◌, subst}
+use Rattle.std.proofs.Common.{◌≡◌, true, false, List, ℕ, None, refl, sym, ◌∙◌, subst}
 use Rattle.std.specs.Prelude.{codes}
 use Rattle.std.specs.Str.{IsUtf8, bytes_eq, is_utf8, chars}
 use Rattle.std.proofs.lemmas.Bool.{cond-false, false_from_ne_true}

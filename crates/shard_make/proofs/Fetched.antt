@@ -1,8 +1,8 @@
 -- Reads of the data file, one after the other.
-use Rattle.std.proofs.Common.{◌≡◌, inl, inr, ℕ, ◌+◌, ◌-◌, ◌*◌, ◌<◌, ◌≤◌, List, ◌++◌, length, take, drop, Result, Ok, Err, refl, sym, ◌∙◌, ap, subst, arith}
+use Rattle.std.proofs.Common.{◌≡◌, inl, inr, ℕ, ◌+◌, ◌-◌, ◌*◌, ◌<◌, ◌≤◌, List, ◌++◌, length, Result, Ok, Err, refl, sym, ◌∙◌, ap, subst, arith}
 use Rattle.std.specs.Prelude.{slice_index, OnOk, get_or}
 use Rattle.std.proofs.lemmas.Bool.{cases_lt}
-use Rattle.std.proofs.lemmas.List.{get_or-append_right, get_or_append_left, get_or-take, get_or-drop, get_or_past}
+use Rattle.std.proofs.lemmas.List.{get_or-append_right, get_or_append_left}
 use Rattle.std.proofs.Math.Nat.{mul-le-mul_right}
 use Rattle.site_model.specs.Disk.{Disk}
 use Rattle.site_model.specs.Counts.{Counts, CountsRead, widest_piece}
@@ -53,18 +53,6 @@ at_middle front out rest from i long h =
     get_or-append_right front (out ++ rest) from (from + i) 0 long (omega arith)
     ∙ ap (λ m. get_or (out ++ rest) m 0) place
     ∙ get_or_append_left out rest 0 i h
-
--- past the end a list reads as zeros
-pub zeros_past : (dat : List ℕ) (p : ℕ) → length dat ≤ p → slice_index dat p ≡ 0
-zeros_past dat p h = get_or_past dat p 0 h
-
--- a front of the bytes from a place on, and zeros behind it where the file ends
-pub front_and_zeros : (dat front rest out : List ℕ) (at count j : ℕ) → out ≡ front ++ rest → length front ≡ count → front ≡ take count (drop at dat)
-    → ((i : ℕ) → slice_index rest i ≡ 0) → (count ≤ j → length dat ≤ at + j) → slice_index out j ≡ slice_index dat (at + j)
-front_and_zeros dat front rest out at count j is long read zero past = ap (λ xs. slice_index xs j) is ∙ elim (cases_lt j count) [
-  | inl less ↦ get_or_append_left front rest 0 j (omega (arith, less, long)) ∙ ap (λ xs. slice_index xs j) read ∙ get_or-take count (drop at dat) j 0 less ∙ get_or-drop at dat j 0
-  | inr more ↦ get_or-append_right front rest count j 0 long more ∙ zero (j - count) ∙ sym (zeros_past dat (at + j) (past more))
-]
 
 -- one piece more
 pub pieces_next : (dat old new : List ℕ) (from apart size n : ℕ) → HoldPieces dat old from apart size n → IsKeptBefore (n * size) old new → HoldsPiece dat new (from + n * apart) size n → HoldPieces dat new from apart size (n + 1)

@@ -1,5 +1,5 @@
 -- Replies that step a job which ended in the line that started it: they are no run, and the bound on steps refuses them.
-use Rattle.std.proofs.Common.{◌≡◌, ℕ, Bool, true, false, List, [], ◌∷◌, Some, None, refl, arith}
+use Rattle.std.proofs.Common.{◌≡◌, false, List, [], ◌∷◌, Some, None, refl, arith}
 use Rattle.std.specs.Prelude.{◌==◌, if◌then◌else◌}
 use Rattle.site_model.specs.Disk.{Files}
 use Rattle.world_model.specs.declared.types.Command.TheVariants.{Encode}
@@ -13,7 +13,7 @@ use Rattle.world_model.specs.Moves.{Reading, grammatical}
 use Rattle.world_model.specs.Runs.{IsRun}
 use Rattle.plan_steps.specs.AnyPlans.{Plans}
 use Rattle.store_jobs.specs.Store.{Store}
-use Rattle.shell_jobs.specs.Progress.{Begin, StepsSo}
+use Rattle.shell_jobs.specs.Progress.{StepsSo}
 
 -- an empty plain volume
 abbrev one_volume : World

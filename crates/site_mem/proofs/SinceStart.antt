@@ -1,5 +1,5 @@
 -- What a stop within a call leaves is what a stop at some moment since the start may leave.
-use Rattle.std.proofs.Common.{◌≡◌, ◌⊎◌, inl, inr, ℕ, zero, suc, ◌<◌, ◌≤◌, ◌==◌, ◌&&◌, ◌||◌, nat_lt, Bool, true, false, cond, List, [], ◌∷◌, ◌++◌, get_or, Option, Some, None, is_some, refl, sym, ◌∙◌, ap, subst, arith}
+use Rattle.std.proofs.Common.{◌≡◌, inl, inr, ℕ, zero, suc, ◌<◌, ◌≤◌, ◌==◌, ◌||◌, nat_lt, Bool, true, false, cond, List, [], ◌∷◌, ◌++◌, get_or, None, is_some, refl, sym, ◌∙◌, ap, subst, arith}
 use Rattle.std.specs.List.{list_any}
 use Rattle.std.proofs.lemmas.Bool.{and_parts, and_from, ltb-false, ne_eqb}
 use Rattle.std.proofs.lemmas.List.{append-nil}
@@ -7,10 +7,10 @@ use Rattle.site_model.specs.Disk.{Files, Image, Call, Moment, Disk, LeftIn, Left
 use Rattle.site_model.specs.Leaves.{Left, LeftWithin, left_before}
 use Rattle.site_mem.specs.declared.entry.Entry.{Entry}
 use Rattle.site_mem.specs.declared.history.History.{History}
-use Rattle.site_mem.specs.Events.{Event, event_kept, added, told, called, after, past_after}
+use Rattle.site_mem.specs.Events.{Event, event_kept, added, told, called, after}
 use Rattle.site_mem.specs.Lost.{has_lost, had_lost, has_lost_after, files_without, without}
 use Rattle.site_mem.specs.Record.{nothing, after_entry, from, disk_of}
-use Rattle.site_mem.specs.Calls.{Underway, call_of, at_call, loses_after, is_numbered, are_calls}
+use Rattle.site_mem.specs.Calls.{call_of, at_call, loses_after, is_numbered, are_calls}
 use Rattle.site_mem.specs.Counting.{IsCall}
 use Rattle.site_mem.specs.Site.{image_of}
 use Rattle.site_mem.specs.Torn.{IsLeftIn, IsLeftBy}

@@ -1,5 +1,5 @@
 -- The counts of a site in memory.
-use Rattle.std.specs.Prelude.{◌≡◌, ℕ, ◌+◌, ◌-◌, ◌^◌, ◌<◌, nat_lt, ◌&&◌, Bool, true, min, length, slice_index}
+use Rattle.std.specs.Prelude.{ℕ, ◌<◌, nat_lt, ◌&&◌, Bool, true, length}
 use Rattle.site_model.specs.Counts.{Counts, CountsWrite, CountsSay}
 use Rattle.site_model.specs.Disk.{appends, syncs, cuts, renames, removes, says}
 use Rattle.site_mem.specs.Events.{Event, added, told, called}

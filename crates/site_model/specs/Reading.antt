@@ -1,6 +1,5 @@
 -- What a read of a source moves, and that it fails with a cause.
 use Rattle.std.specs.Prelude.{◌≡◌, ℕ, ◌≤◌, List, [], length, take, drop, Option, Some, None}
-use Rattle.std.proofs.Common.{arith}
 use Rattle.site_model.specs.Counts.{Rose}
 
 -- n of these bytes were moved into the front of `out`, and this is left. None is moved at the end alone.

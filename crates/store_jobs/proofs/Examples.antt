@@ -1,5 +1,5 @@
 -- What the contract of plans refuses and what it admits, by small examples.
-use Rattle.std.proofs.Common.{◌≡◌, ℕ, ◌<◌, Bool, true, false, List, ◌∷◌, [], Some, None, is_some, refl, arith}
+use Rattle.std.proofs.Common.{◌≡◌, ℕ, Bool, true, false, List, ◌∷◌, [], Some, None, is_some, refl, arith}
 use Rattle.std.specs.Prelude.{◌==◌, ◌&&◌, if◌then◌else◌}
 use Rattle.file_names.specs.declared.Kind.TheVariants.{Shard}
 use Rattle.image_meaning.specs.Files.{VolumeFiles}

@@ -3,7 +3,7 @@ use Rattle.std.specs.Prelude.{◌≡◌, ℕ, ◌<◌, ◌≤◌, Bool, false, L
 use Rattle.std.specs.Option.{option_map_or}
 use Rattle.std.specs.List.{AllByRecursion, find}
 use Rattle.site_model.specs.Disk.{Files, Image}
-use Rattle.world_model.specs.World.{Volume, World}
+use Rattle.world_model.specs.World.{World}
 use Rattle.world_model.specs.World as world
 use Rattle.world_model.specs.declared.types.Command.{Command}
 use Rattle.world_model.specs.declared.types.Command.TheVariants.{Encode}

@@ -1,5 +1,5 @@
 -- What the loop knows so far.
-use Rattle.std.proofs.Common.{◌≡◌, ℕ, ◌+◌, ◌/◌, ◌≤◌, List, [], ◌∷◌, ◌++◌, length, drop, Ok, Result, refl, sym, ap, ◌∙◌, append_assoc, append-nil, length-drop, arith}
+use Rattle.std.proofs.Common.{◌≡◌, ℕ, ◌+◌, ◌/◌, ◌≤◌, List, [], ◌∷◌, ◌++◌, length, drop, Ok, Result, sym, ap, ◌∙◌, append_assoc, append-nil, length-drop, arith}
 use Rattle.volume_forms.specs.declared.Entry.{Entry}
 use Rattle.volume_fix.specs.declared.Past.{Past}
 use Rattle.volume_fix.specs.Walk.{header_length, Walk, entry_or_past, walk}

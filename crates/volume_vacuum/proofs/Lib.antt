@@ -1,4 +1,4 @@
-mod Rows
+mod Examples
 mod Entries
 mod Sorted
 mod Laid

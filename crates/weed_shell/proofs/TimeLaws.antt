@@ -122,11 +122,6 @@ last_told told ts n count = subst (λ k. slice_get (told ++ ts ∷ []) k ≡ Som
 
 -- ---- over a run
 
--- with the same records
-pub times_still : (start : Start) (replies : List Reply) (told : List (List ℕ)) (old new : Image) → HasSameRecords old new → TimesAfter start replies told old → TimesAfter start replies told new
-times_still start replies told old new same times = λ live v id below.
-    subst (AreTimed live v id (lines_of start) replies told (time_in live (opening_image start) v id)) (sym (same_times live id v old new (same v below))) (times live v id below)
-
 pub times_told : (start : Start) (replies : List Reply) (told more : List (List ℕ)) (image : Image) → TimesAfter start replies told image → TimesAfter start replies (told ++ more) image
 times_told start replies told more image times = λ live v id below. timed_more live v id (lines_of start) replies told more _ _ (times live v id below)
 

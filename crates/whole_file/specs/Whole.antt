@@ -1,6 +1,6 @@
 -- What the calls of this crate do to a site's files.
-use Rattle.std.specs.Prelude.{◌≡◌, ◌≢◌, ◌⊎◌, ℕ, List, length, Option, Some, None}
-use Rattle.site_model.specs.Disk.{File, Place, Files, Image, LeftOf, LeftBut, SameBut, grown, firm_file, IsFirm, standing, IsPartlyGrown, Disk, appends, removes}
+use Rattle.std.specs.Prelude.{◌≡◌, ◌⊎◌, ℕ, List, length, Some, None}
+use Rattle.site_model.specs.Disk.{Place, LeftOf, SameBut, firm_file, IsFirm, standing, IsPartlyGrown, Disk, appends}
 use Rattle.site_model.specs.Leaves.{Leaves, WithinCall}
 use Rattle.site_model.specs.Touches.{Touches, At}
 

@@ -77,7 +77,8 @@ pub fn read_whole<T: Site>(
     Ok(Some(bytes))
 }
 
-fn zeros(alloc: Global, size: usize) -> Result<Vec<u8>, AllocError>
+/// So many bytes that are 0, to read into.
+pub fn zeros(alloc: Global, size: usize) -> Result<Vec<u8>, AllocError>
     ensures { IfOk result (λ v. length v.items ≡ size) }
 {
     vec![in alloc; 0; size]

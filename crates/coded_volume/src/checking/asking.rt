@@ -9,11 +9,7 @@ use std::alloc::Global;
 use whole_file::read_range;
 
 /// The length of a file in bytes, and `None` where it is absent.
-pub(crate) fn size_at<T: Site>(
-    site: &mut T,
-    server: u32,
-    name: &str,
-) -> Result<Option<u64>, OpenFault>
+pub fn size_at<T: Site>(site: &mut T, server: u32, name: &str) -> Result<Option<u64>, OpenFault>
     requires { server < T.servers site.old }
     ensures size { IfOk result (λ size. IsTrue T.tells
         → size ≡ size_of ((T.disk site.old).files (server, name.now))) }
@@ -28,7 +24,7 @@ pub(crate) fn size_at<T: Site>(
 }
 
 /// So many bytes of a file, from `at` on, which lie in it.
-pub(crate) fn piece_at<T: Site>(
+pub fn piece_at<T: Site>(
     alloc: Global,
     site: &mut T,
     server: u32,

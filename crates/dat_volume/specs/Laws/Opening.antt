@@ -4,9 +4,9 @@ use Rattle.std.proofs.Common.{◌≡◌, ◌⊎◌, inl, inr, ⊎_elim, ℕ, zer
 use Rattle.std.specs.Prelude.{◌==◌, ◌&&◌, ◌||◌, nat_lt, nat_le, slice_get}
 use Rattle.std.specs.Option.{option_map_or}
 use Rattle.std.specs.FinMap.{empty}
-use Rattle.std.proofs.lemmas.List.{length-drop, length-take-le, take-map, take-take, drop-take}
+use Rattle.std.proofs.lemmas.List.{length-drop, length-take-le, take-map, drop-take}
 use Rattle.std.proofs.lemmas.List.Elements.{All-take}
-use Rattle.std.proofs.lemmas.Bool.{eqb-true, eq-eqb, ne_eqb, lt-ltb, le-ltb, ltb-true, ltb-false, leb-true, cases_lt, or_cases, and_right, or_left, or_right, false_from_ne_true, false≢true}
+use Rattle.std.proofs.lemmas.Bool.{eqb-true, eq-eqb, ne_eqb, lt-ltb, le-ltb, ltb-true, ltb-false, leb-true, cases_lt, or_cases, or_left, or_right, false_from_ne_true, false≢true}
 use Rattle.world_model.specs.declared.types.Content.{Content}
 use Rattle.world_model.specs.Sizes.{size_of_content, max_dat}
 use Rattle.volume_forms.specs.declared.Entry.{Entry}

@@ -1,19 +1,17 @@
 -- What the crates above need of a volume's two files after a stop.
-use Rattle.std.specs.Prelude.{◌≡◌, ℕ, true, IsTrue, List, [], ◌++◌, Option, Some, is_some, unwrap_or}
+use Rattle.std.specs.Prelude.{◌≡◌, ℕ, IsTrue, List, [], Option, Some}
 use Rattle.std.proofs.Common.{inl, inr, refl, sym, ◌∙◌, ap, subst, arith}
 use Rattle.std.proofs.lemmas.List.{append-nil}
 use Rattle.site_model.specs.Disk.{File, Files, Image, LeftOf, firm_file}
 use Rattle.site_model.specs.Touches.{firm_left}
 use Rattle.site_model.specs.Standing.{Stands}
-use Rattle.file_names.specs.declared.Kind.TheVariants.{Dat, Idx}
 use Rattle.wire_num.specs.Numbers.{number_of}
 use Rattle.volume_forms.specs.Forms.{has_super, entries, entries_within}
 use Rattle.volume_forms.specs.Laws.Super.{has_super-by}
 use Rattle.needle_record.specs.Records.{Placed, records, end_of}
 use Rattle.needle_record.specs.Laws.Records.{records_from-nothing}
-use Rattle.image_meaning.specs.Files.{files_of, stands, bytes_at}
 use Rattle.image_meaning.specs.Plain.{kept_records, FollowsRecords, IsExact}
-use Rattle.image_meaning.specs.Laws.Plain.{exact_follows, exact_kept_records, has_super-append}
+use Rattle.image_meaning.specs.Laws.Plain.{exact_follows, exact_kept_records}
 use Rattle.dat_volume.specs.Places.{dat_place, idx_place, IsOneOfTwo, AreFirmRecords, LeavesRecords}
 use Rattle.dat_volume.specs.Writes.{new_dat}
 

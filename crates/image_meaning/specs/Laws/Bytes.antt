@@ -1,5 +1,5 @@
 -- The files of a volume on a site are bytes. For the recovery of coded volumes, to come.
-use Rattle.std.proofs.Common.{ℕ, false, [], Option, Some, None, List}
+use Rattle.std.proofs.Common.{ℕ, false, [], Option, Some, None}
 use Rattle.std.specs.Prelude.{unwrap_or}
 use Rattle.site_model.specs.Disk.{File, Files, IsPossible, AreBytes, bytes_of}
 use Rattle.site_model.specs.Disk as disk

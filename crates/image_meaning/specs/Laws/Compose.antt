@@ -1,15 +1,12 @@
 -- Losses one after another are one loss.
-use Rattle.std.proofs.Common.{◌≡◌, ℕ, ◌<◌, ◌≤◌, Bool, true, false, List, length, Option, Some, None, refl, sym, ◌∙◌, ap, subst}
+use Rattle.std.proofs.Common.{◌≡◌, ℕ, ◌≤◌, Bool, true, false, List, length, Option, Some, None, refl, ◌∙◌, subst}
 use Rattle.std.specs.Prelude.{◌||◌, if◌then◌else◌, nat_lt, IsSome}
 use Rattle.std.proofs.lemmas.Bool.{false≢true}
-use Rattle.site_model.specs.Disk.{Image}
-use Rattle.site_model.specs.Standing.{lose}
 use Rattle.world_model.specs.Ratios.{data_count}
 use Rattle.image_meaning.specs.Files.{VolumeFiles, files_of, lose_files, standing}
 use Rattle.image_meaning.specs.Plain.{index_home}
-use Rattle.image_meaning.specs.Coded.{ratio_of}
 use Rattle.image_meaning.specs.Meaning.{volume_of, max_volumes}
-use Rattle.image_meaning.specs.Sound.{IsPlain, IsCoded, IsSound, IsSoundVolume}
+use Rattle.image_meaning.specs.Sound.{IsPlain, IsSoundVolume}
 use Rattle.image_meaning.specs.Ends.{SurvivesIn, LossesCompose}
 use Rattle.image_meaning.specs.Laws.PlainLoss.{is_plain}
 use Rattle.image_meaning.specs.Laws.CodedLoss.{some_standing, ratio_left}

@@ -19,9 +19,9 @@ use Rattle.needle_record.specs.Records.{fold_records}
 use Rattle.image_meaning.specs.Files.{VolumeFiles, files_of, lose_files, has_index, index_at, dat_at, index_bytes, dat_bytes, SameVolume}
 use Rattle.image_meaning.specs.Plain.{kept_records, kept_at, index_home, FollowsRecords}
 use Rattle.image_meaning.specs.Meaning.{volume_of, max_volumes}
-use Rattle.image_meaning.specs.Sound.{Stands, IsPlain, HasIndex, HasOneHome, IsSoundVolume}
+use Rattle.image_meaning.specs.Sound.{IsPlain, HasIndex, HasOneHome, IsSoundVolume}
 use Rattle.image_meaning.specs.Ends.{SurvivesIn, IsSurvivable, MayHave}
-use Rattle.image_meaning.specs.Laws.Servers.{lowest-some, lowest-exists}
+use Rattle.image_meaning.specs.Laws.Servers.{lowest-exists}
 use Rattle.image_meaning.specs.Laws.PlainLoss.{plain_home, plain_means, is_plain, home_has, index_stood, same_views}
 use Rattle.image_meaning.specs.Laws.LossLaw.{coded_form}
 use Rattle.image_meaning.specs.Laws.Views.{index_at-lost}
@@ -244,6 +244,3 @@ temp_apart v s t a b h e =
 pub others_left : (v w : ℕ) (a b : Image) → v < max_volumes → w < max_volumes → v ≢ w
     → ((k : Place) → ((server : ℕ) (kind : Kind) (temp : Bool) → k ≢ place_of w server kind temp) → a k ≡ b k) → SameVolume v a b
 others_left v w a b h k other same server kind = same (place_of v server kind false) (λ t c y. volumes_apart v w server t kind c false y h k other)
-
-pub temps_left : (v : ℕ) (a b : Image) → v < max_volumes → ((k : Place) → ((server : ℕ) (kind : Kind) → k ≢ place_of v server kind true) → a k ≡ b k) → SameVolume v a b
-temps_left v a b h same server kind = same (place_of v server kind false) (λ t c. temp_apart v server t kind c h)

@@ -15,7 +15,7 @@ use Rattle.world_model.specs.Ratios.{data_count}
 use Rattle.image_meaning.specs.Meaning.{mode_of, volume_of, volume_by, has_long_dat}
 use Rattle.image_meaning.specs.Sound.{IsCoded, IsHolder, HasInfo, HasStripes, HasJournal}
 use Rattle.image_meaning.specs.Laws.Servers.{lowest-some, lowest-none}
-use Rattle.image_meaning.specs.Laws.PlainLoss.{stood, index_stood}
+use Rattle.image_meaning.specs.Laws.PlainLoss.{index_stood}
 use Rattle.image_meaning.specs.Laws.CodedLoss.{info_left, dat_left, some_holder, any_range, ratio_is, ratio_left, some_standing}
 use Rattle.image_meaning.specs.Laws.Journals.{deleted_left}
 use Rattle.image_meaning.specs.Ends.{IsStage}

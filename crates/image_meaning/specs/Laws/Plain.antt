@@ -3,11 +3,9 @@ use Rattle.std.proofs.Common.{◌≡◌, ◌⊎◌, inl, inr, ℕ, zero, suc, �
 use Rattle.std.specs.Prelude.{◌==◌, ◌&&◌, ◌||◌, nat_le, nat_lt, if◌then◌else◌, filter, slice_index, unwrap_or, IfSome, option_map}
 use Rattle.std.specs.Int.{w32, cast_unsigned}
 use Rattle.std.specs.List.{range_with_len}
-use Rattle.std.specs.FinMap.{get}
 use mathlib.Core.Bool.{true≢false}
 use Rattle.std.proofs.Math.ListN.{length-append}
 use Rattle.std.proofs.lemmas.List.{append-nil, map-append, length-map, take-map, length-take, length-take-le, take-append-drop, drop-append-le, take_at}
-use Rattle.std.proofs.lemmas.List.Elements.{All-take}
 use Rattle.std.proofs.lemmas.Bool.{le-leb, leb-true, le-ltb, lt-leb}
 use Rattle.wire_num.specs.Numbers.{number_of, bytes_of}
 use Rattle.wire_num.specs.Laws.Number.{number_of-append, length-bytes_of}
@@ -25,8 +23,8 @@ use Rattle.volume_forms.specs.Laws.Kept.{kept_count-le_index, kept_count-le_want
 use Rattle.needle_record.specs.declared.Record.{Record}
 use Rattle.needle_record.specs.Spelling.{HasRoom, canonical, length_of_record, record_size}
 use Rattle.needle_record.specs.Laws.Spelling.{length_of_record-least, record_size-fits}
-use Rattle.needle_record.specs.Records.{Placed, records, end_of, entry_of, fold_records, index_of, AgreesAt, StandsIn}
-use Rattle.needle_record.specs.Laws.Records.{records_from-nothing, records-write, whole_dat-write, records-cut, whole_dat-cut, records-stand, index_of-agrees, fold_records-used}
+use Rattle.needle_record.specs.Records.{Placed, records, end_of, entry_of, fold_records}
+use Rattle.needle_record.specs.Laws.Records.{records_from-nothing, records-write, whole_dat-write, records-cut, whole_dat-cut, fold_records-used}
 use Rattle.image_meaning.specs.Files.{VolumeFiles, stands, bytes_at, has_index, index_at, dat_at, index_bytes, dat_bytes, lowest, shard_home, standing}
 use Rattle.site_model.specs.Counts.{max_servers}
 use Rattle.image_meaning.specs.Plain.{kept, kept_records, kept_at, index_home, FollowsRecords, IsExact}

@@ -43,10 +43,6 @@ pub absent_records : (files : VolumeFiles) → mode_of files ≡ None → record
 unfolding records_of
 absent_records files e = ap (λ m. option_map_or (records_by files) m []) e
 
-pub lost_records : (files : VolumeFiles) → mode_of files ≡ Some mode.Lost → records_of files ≡ []
-unfolding records_of
-lost_records files e = ap (λ m. option_map_or (records_by files) m []) e
-
 -- ---- times
 
 -- after one record more

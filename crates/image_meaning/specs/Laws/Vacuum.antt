@@ -146,15 +146,6 @@ module _ (files : VolumeFiles) (home : ℕ) (dat idx : List ℕ) (held : IsHeldA
 
 -- ---- the steps of a vacuum
 
--- the same views
-pub held_same : (files left : VolumeFiles) (home : ℕ) (dat idx : List ℕ) → IsHeldAlone files home dat idx → ((server : ℕ) → HasSameViews files left server) → IsHeldAlone left home dat idx
-held_same files left home dat idx held same = record {
-  below = held.below;
-  has_dat = (same home).dat ∙ held.has_dat;
-  has_index = (same home).index ∙ held.has_index;
-  alone = λ server has. held.alone server (has.0, ap is_some (sym (same server).index) ∙ has.1);
-}
-
 -- The moment of change: beside what is there `.cpd` stands, and `.cpx` gets its name.
 pub held_made : (files left : VolumeFiles) (home : ℕ) (dat idx new_dat new_idx : List ℕ) → IsHeldAlone files home dat idx → left home Cpd ≡ Some new_dat → left home Cpx ≡ Some new_idx
     → ((server : ℕ) → server ≢ home → HasSameViews files left server) → ((server : ℕ) → (server ≡ home) ⊎ (server ≢ home)) → IsHeldAlone left home new_dat new_idx

@@ -2,7 +2,7 @@
 use Rattle.std.specs.Prelude.{◌≡◌, ◌≢◌, ℕ, ◌+◌, ◌≤◌}
 use Rattle.std.proofs.Common.{inl, inr, ◌∙◌, ap, refl, subst, sym, arith}
 use Rattle.std.proofs.lemmas.Bool.{cases_eq}
-use Rattle.site_model.specs.Counts.{Counts, Rose, CountsRead, CountsWrite, CountsSay, HasCause, HasWriteCause, HasSayCause, IsLater, TakesCalls, Calls, CallsAt, widest_piece}
+use Rattle.site_model.specs.Counts.{Counts, Rose, CountsRead, CountsWrite, CountsSay, HasCause, IsLater, TakesCalls, Calls, CallsAt, widest_piece}
 
 -- What rose within a run rose in it.
 pub rose_after : (before mid now : ℕ) → before ≤ mid → Rose mid now → Rose before now

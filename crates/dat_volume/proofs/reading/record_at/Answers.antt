@@ -1,11 +1,10 @@
-use Rattle.std.proofs.Common.{◌≡◌, ℕ, List, length, take, Result, Err, sym, ◌∙◌, ap, subst}
+use Rattle.std.proofs.Common.{◌≡◌, ℕ, length, take, Result, Err, sym, ◌∙◌, ap, subst}
 use Rattle.site_model.specs.Disk.{bytes_of}
 use Rattle.needle_record.specs.declared.Record.{Record}
 use Rattle.needle_record.specs.declared.NeedleFault.{NeedleFault}
 use Rattle.needle_record.specs.Given.{Gives}
 use Rattle.needle_record.specs.Reading.{needle_at}
 use Rattle.dat_volume.specs.Needles.{bytes_from}
-use Rattle.dat_volume.specs.Reading.{front_damage}
 use Rattle.dat_volume.proofs.Faults.{given_fault}
 use Rattle.dat_volume.proofs.Heads.{own_bytes, own_length, head_whole, reading_told}
 use Rattle.dat_volume.proofs.reading.record_at.Goals as goal

@@ -1,9 +1,8 @@
-use Rattle.std.proofs.Common.{◌≡◌, ℕ, ◌+◌, ◌≤◌, ◌==◌, false, List, drop, take, Option, Result, Ok, Some, None, cond, ap, sym, subst, ◌∙◌, rules}
+use Rattle.std.proofs.Common.{◌≡◌, ℕ, ◌==◌, false, List, drop, take, Ok, Some, None, cond, ap, sym, subst, ◌∙◌, rules}
 use Rattle.std.proofs.lemmas.List.{take_rest}
 use Rattle.world_model.specs.declared.types.Content.{Content}
 use Rattle.wire_num.specs.Numbers.{number_of}
 use Rattle.needle_record.specs.declared.fields.Parts.{Parts}
-use Rattle.needle_record.specs.declared.NeedleFault.{NeedleFault}
 use Rattle.needle_record.specs.Reading.{◌>>=◌, content_at, content_in, content_or_fault}
 use Rattle.needle_record.specs.Given.{content_of}
 use Rattle.needle_record.specs.Laws.Again.{bind_again}

@@ -1,5 +1,4 @@
-use Rattle.std.proofs.Common.{◌≡◌, ◌≤◌, ℕ, map, string_bytes, inl, length, Option, Some, None, refl, sym, subst}
-use Rattle.std.specs.Prelude.{IfSome}
+use Rattle.std.proofs.Common.{◌≡◌, ℕ, map, string_bytes, inl, None, refl, sym, subst}
 use Rattle.site_model.specs.Disk.{Disk, IsSettled}
 use Rattle.image_meaning.specs.Files.{contents}
 use Rattle.image_meaning.specs.Meaning.{meaning}

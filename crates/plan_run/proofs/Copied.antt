@@ -1,4 +1,4 @@
--- The piece of a shard that is copied next.
+-- The piece of a file that is copied next.
 use Rattle.std.proofs.Common.{◌≡◌, ◌≢◌, inl, inr, ⊎_elim, ℕ, ◌+◌, ◌<◌, ◌≤◌, ◌^◌, true, false, List, length, take, drop, Some, sym, ◌∙◌, ap, subst, arith}
 use Rattle.std.specs.Prelude.{◌==◌, slice_get}
 use Rattle.std.proofs.lemmas.Bool.{and_parts, and_from, eqb-true, false≢true, leb-true}
@@ -9,7 +9,6 @@ use Rattle.world_model.specs.World.{Volume}
 use Rattle.world_model.specs.Ratios.{data_count}
 use Rattle.file_names.specs.declared.Kind.{Kind}
 use Rattle.file_names.specs.declared.Kind.TheVariants.{Idx, Shard, Vif}
-use Rattle.stripe_layout.specs.Stripes.{shard_length, shards_in_all}
 use Rattle.shard_table.specs.Table.{Row, Table, row_of}
 use Rattle.image_meaning.specs.Ends.{changes_form}
 use Rattle.image_meaning.specs.Share.{Share, finals, share_of}
@@ -23,6 +22,7 @@ use Rattle.plan_steps.specs.Walk.{is_file}
 use Rattle.plan_steps.specs.Laws.Walk.{file_is}
 use Rattle.plan_steps.specs.Laws.Enough.{leaves_enough}
 use Rattle.plan_steps.specs.Laws.Within.{state_within}
+use Rattle.image_meaning.specs.Parts.{Parts}
 use Rattle.plan_steps.specs.AsTold.{IsPlannedKind}
 use Rattle.plan_steps.specs.MendEnd.{IsMending}
 use Rattle.plan_steps.specs.Next.{is_behind}
@@ -60,56 +60,59 @@ module _ (r : Running) (servers : ℕ) (names : FileNames) (work : IsAtWork r se
       let way : IsOnItsWay r row = record { listed = work.on_its_way.1.listed; apart = work.on_its_way.1.apart; reached = work.on_its_way.1.reached; places = has.fits } in
       leb-true (data_count r.plan.info.geometry.ratio) (shards_standing r.plan.info row) (leaves_enough r row servers work.of_plan way mends)
 
-module _ (r : Running) (servers : ℕ) (names : FileNames) (work : IsAtWork r servers names) (from to i at : ℕ) (due : HasPiece r (CopyPiece from to (Shard i) at) × (◌≢◌ {A = Kind} (Shard i) Vif)) where
+module _ (r : Running) (servers : ℕ) (names : FileNames) (work : IsAtWork r servers names) (from to : ℕ) (kind : Kind) (at : ℕ) (due : HasPiece r (CopyPiece from to kind at) × (kind ≢ Vif)) where
   abbrev pub s : FileState
   s = due.0.file
 
-  abbrev pub whole : ℕ
-  whole = shard_length r.plan.info.geometry r.plan.info.dat_size
+  both : (is_file to kind s ≡ true) × ((at == s.length) ≡ true)
+  both = and_parts (is_file to kind s) (at == s.length) due.0.goes
 
-  both : (is_file to (Shard i) s ≡ true) × ((at == s.length) ≡ true)
-  both = and_parts (is_file to (Shard i) s) (at == s.length) due.0.goes
+  pub is : (s.server ≡ to) × (s.kind ≡ kind)
+  is = file_is to kind s both.0
 
-  pub is : (s.server ≡ to) × (s.kind ≡ Shard i)
-  is = file_is to (Shard i) s both.0
-
-  pub listed : IsListed r.states to (Shard i)
+  pub listed : IsListed r.states to kind
   listed = (due.0.at, s, due.0.there, is.0, is.1)
 
   begins : at ≡ s.length
   begins = eqb-true at s.length both.1
 
-  short : s.length ≤ whole
-  short = subst (IsShort r.plan s.length) is.1 (work.bounds.short.lengths due.0.at s due.0.there due.0.behind)
+  -- the piece begins within the file
+  pub from_short : IsShort r.plan at kind
+  from_short = subst (λ (p : ℕ × Kind). IsShort r.plan p.0 p.1) (λ k. (sym begins k, is.1 k)) (work.bounds.short.lengths due.0.at s due.0.there due.0.behind)
 
-  pub from_short : at ≤ whole
-  from_short = omega (arith, begins, short)
-
-  pub numbered : i < shards_in_all r.plan.info.geometry
-  numbered = subst (IsPlannedKind r.plan) is.1 (state_within r.plan servers work.of_plan r.states work.on_its_way.1.listed due.0.at s due.0.there).1
+  -- and is of one that a plan may write
+  pub of_kind : IsPlannedKind r.plan kind
+  of_kind = subst (IsPlannedKind r.plan) is.1 (state_within r.plan servers work.of_plan r.states work.on_its_way.1.listed due.0.at s due.0.there).1
 
   pub has_room : (place n : ℕ) → place ≡ due.0.at → at + n < 2 ^ 64 → HasRoom r.states place n
   has_room place n same fits u at_u =
       let here : u ≡ s = some_is u s (sym at_u ∙ ap (slice_get r.states) same ∙ due.0.there) in
       omega (arith, ap (λ (x : FileState). x.length) here, begins, fits)
 
-  pub goes : goes_on_behind r.plan r.place (CopyPiece from to (Shard i) at) s ≡ true
-  goes = and_from (is_behind s.stage) (goes_on r.plan r.place (CopyPiece from to (Shard i) at) s) due.0.behind due.0.goes
+  pub goes : goes_on_behind r.plan r.place (CopyPiece from to kind at) s ≡ true
+  goes = and_from (is_behind s.stage) (goes_on r.plan r.place (CopyPiece from to kind at) s) due.0.behind due.0.goes
 
-  pub only : (place : ℕ) → place ≡ due.0.at → (k : ℕ) (u : FileState) → slice_get r.states k ≡ Some u → goes_on_behind r.plan r.place (CopyPiece from to (Shard i) at) u ≡ true → k ≡ place
+  pub only : (place : ℕ) → place ≡ due.0.at → (k : ℕ) (u : FileState) → slice_get r.states k ≡ Some u → goes_on_behind r.plan r.place (CopyPiece from to kind at) u ≡ true → k ≡ place
   only place same k u at_u e =
-      let on = (and_parts (is_behind u.stage) (goes_on r.plan r.place (CopyPiece from to (Shard i) at) u) e).1 in
-      let this = file_is to (Shard i) u (and_parts (is_file to (Shard i) u) (at == u.length) on).0 in
+      let on = (and_parts (is_behind u.stage) (goes_on r.plan r.place (CopyPiece from to kind at) u) e).1 in
+      let this = file_is to kind u (and_parts (is_file to kind u) (at == u.length) on).0 in
       work.on_its_way.1.apart.apart k due.0.at u s at_u due.0.there (this.0 ∙ sym is.0) (this.1 ∙ sym is.1) ∙ sym same
 
-  pub no_index : s.kind ≢ Idx
-  no_index e = let clash : ◌≡◌ {A = Kind} (Shard i) Idx = sym is.1 ∙ e in cc
+  pub no_index : kind ≢ Idx → s.kind ≢ Idx
+  no_index other e = other (sym is.1 ∙ e)
 
-  pub right : (files : Files) (piece : List ℕ) → GivesShardPart r files i at piece → (w : Volume) (f : Forms) (row : Row) (start : Share) → FitsProgress w f r row start (share_of files r.plan.volume) → IsPiece f.parts s piece
-  right files piece gives w f row start fits =
-      let part = gives w f row start fits in record {
-        whole = part.whole;
-        planned_is = subst (λ c. planned f.parts c ≡ Some part.whole) (sym is.1) part.there;
-        follows = subst (λ n. piece ≡ take (length piece) (drop n part.whole)) begins part.part;
-        within = omega (arith, begins, part.within);
-      }
+  -- what follows of the bytes that are planned
+  pub right : (t : Parts) (whole piece : List ℕ) → planned t kind ≡ Some whole → piece ≡ take (length piece) (drop at whole) → at + length piece ≤ length whole → IsPiece t s piece
+  right t whole piece is_planned part within = record {
+    whole = whole;
+    planned_is = subst (λ c. planned t c ≡ Some whole) (sym is.1) is_planned;
+    follows = subst (λ n. piece ≡ take (length piece) (drop n whole)) begins part;
+    within = omega (arith, begins, within);
+  }
+
+-- of a shard
+module _ (r : Running) (servers : ℕ) (names : FileNames) (work : IsAtWork r servers names) (from to i at : ℕ) (due : HasPiece r (CopyPiece from to (Shard i) at) × (◌≢◌ {A = Kind} (Shard i) Vif)) where
+  pub right_shard : (files : Files) (piece : List ℕ) → GivesShardPart r files i at piece → (w : Volume) (f : Forms) (row : Row) (start : Share) → FitsProgress w f r row start (share_of files r.plan.volume) → IsPiece f.parts due.0.file piece
+  right_shard files piece gives w f row start fits =
+      let part = gives w f row start fits in
+      right r servers names work from to (Shard i) at due f.parts part.whole piece part.there part.part part.within

@@ -33,6 +33,11 @@ module _ (r : Running) (below : r.plan.volume < max_volumes) (old : Disk) where
   pub undone : {A : Type 0} (tells : Type 0) (by : Step) (mid : Disk) → (tells → mid ≡ old) → (fault : DeviceFault) → Steps {A = A} tells r by r (Err fault) old mid
   undone tells by mid same fault = record { tried = λ t. subst (TriesStep r old) (sym (same t)) looked; taken = tt; same = refl }
 
+-- of fewer calls
+pub reads_within : {S : Type 0} {tells : Type 0} {disk : S → Disk} {counts : S → Counts} {count : S → ℕ} {old mid : S} {n : ℕ} {F : ℕ → Type 0} → n ≤ 16 → OnlyReads tells disk counts count (TakesCalls n widest_piece) old mid F
+    → OnlyReads tells disk counts count (TakesCalls 16 widest_piece) old mid F
+reads_within few reads = record { same = reads.same; calls = takes_within few (omega arith) reads.calls; runs = reads.runs }
+
 module _ {A S : Type 0} {tells : Type 0} {disk : S → Disk} {counts : S → Counts} {count : S → ℕ} {old mid : S} where
   pub read_few : (read : Result A DeviceFault) → OnlyReads tells disk counts count (TakesCalls 16 widest_piece) old mid (λ s. IsErrOf read (record { server = s })) → TakesFew counts count read old mid
   read_few read reads = record { takes = takes_within (omega arith) (omega arith) reads.calls; runs = reads.runs }

@@ -1,9 +1,8 @@
--- A step that copies a shard is one of a rebuild or a balance.
-use Rattle.std.proofs.Common.{◌≡◌, ◌⊎◌, inl, inr, ℕ, ◌-◌, ◌/◌, Bool, true, false, Option, Some, None, refl, sym, ◌∙◌, ap, subst}
-use Rattle.std.specs.Prelude.{◌==◌, if◌then◌else◌, nat_lt, filter, flat_map, slice_get}
-use Rattle.std.proofs.lemmas.Bool.{and_from, eq-eqb, false≢true}
+-- A step that copies a piece is one of a rebuild or a balance, and that of an index copies from the first holder.
+use Rattle.std.proofs.Common.{◌≡◌, ◌≢◌, inl, inr, ⊎_elim, ℕ, ◌-◌, ◌/◌, Bool, true, false, Option, Some, None, refl, sym, ◌∙◌, ap, subst}
+use Rattle.std.specs.Prelude.{if◌then◌else◌, nat_lt, slice_get}
+use Rattle.std.proofs.lemmas.Bool.{false≢true}
 use Rattle.image_meaning.specs.Laws.Options.{none_some, some_is}
-use Rattle.image_meaning.specs.Files.{all_servers}
 use Rattle.world_model.specs.declared.types.Command.{Command}
 use Rattle.world_model.specs.declared.types.Command.TheVariants.{Encode, Rebuild, Balance, Decode}
 use Rattle.file_names.specs.declared.Kind.{Kind}
@@ -15,21 +14,27 @@ use Rattle.plan_steps.specs.declared.plan.Stage.{Stage}
 use Rattle.plan_steps.specs.declared.plan.Stage.TheVariants.{Absent, Writing, Synced, Registered, Gone}
 use Rattle.plan_steps.specs.declared.step.Step.{Step}
 use Rattle.plan_steps.specs.declared.step.Step.TheVariants.{PutInfo, WriteEntries, PutJournal, MakePiece, MendPiece, JoinPiece, JoinDeletes, CopyPiece, Sync, Register, Unregister, DropIndex, DropData}
+use Rattle.plan_steps.specs.DecodeEnd.{new_listed}
 use Rattle.plan_steps.specs.Laws.Order.{name_at}
-use Rattle.plan_steps.specs.Lists.{list_by, list_of, shard_names, left_names}
-use Rattle.plan_steps.specs.Members.{Has, at_has, has_either, map_has, flat_has, has_any}
+use Rattle.plan_steps.specs.Legal.{IsNew}
+use Rattle.plan_steps.specs.Lists.{list_of}
+use Rattle.plan_steps.specs.Members.{at_has}
 use Rattle.plan_steps.specs.MendEnd.{IsMending}
-use Rattle.plan_steps.specs.Next.{make_in_rows, make_step, join_in_rows, join_step, large_end, is_made, shard_source, mend_step, shard_step, index_step, piece_step, is_whole, going_step, coming_step, file_step, file_at, turn_of, step_at, next_step}
+use Rattle.plan_steps.specs.Next.{make_in_rows, make_step, join_in_rows, join_step, large_end, is_made, shard_source, mend_step, shard_step, first_holder, index_step, piece_step, is_whole, going_step, coming_step, file_step, file_at, turn_of, step_at, next_step}
 use Rattle.plan_steps.specs.Order.{Names}
-use Rattle.plan_steps.specs.Planned.{held, is_at, is_encode, is_found, placed}
+use Rattle.plan_steps.specs.Planned.{is_encode, is_found}
 use Rattle.plan_steps.specs.Progressing.{Running}
 use Rattle.plan_steps.specs.Stepping.{HasPiece}
 use Rattle.plan_steps.specs.Walk.{first_open}
 use Rattle.plan_run.specs.declared.names.FileNames.{FileNames}
 use Rattle.plan_run.specs.Stepping.{IsAtWork}
 
+-- no encode copies, and an index is copied from the first holder
+record IsCopy (r : Running) (from : ℕ) (kind : Kind) : Type 0 where
+  no_encode : is_encode r.plan.command ≡ false
+  source : kind ≡ Ecx → from ≡ first_holder r.plan.places.items r.plan.home
+
 module _ (r : Running) where
-  -- no encode copies
   abbrev IsCopying : Step → Type 0
   IsCopying (PutInfo server) = Unit {0}
   IsCopying (WriteEntries at) = Unit {0}
@@ -38,7 +43,7 @@ module _ (r : Running) where
   IsCopying (MendPiece at) = Unit {0}
   IsCopying (JoinPiece row block at) = Unit {0}
   IsCopying (JoinDeletes at) = Unit {0}
-  IsCopying (CopyPiece from to kind at) = is_encode r.plan.command ≡ false
+  IsCopying (CopyPiece from to kind at) = IsCopy r from kind
   IsCopying (Sync server kind) = Unit {0}
   IsCopying (Register server kind) = Unit {0}
   IsCopying (Unregister server kind) = Unit {0}
@@ -72,7 +77,7 @@ module _ (r : Running) where
       either (nat_lt n (large_end r.plan.info)) (join_in_rows (row_width g) g.large 0 n) (join_in_rows (row_width g) g.small (large_rows g size) (n - large_end r.plan.info)) tt tt
 
   mend : (i server n : ℕ) → is_encode r.plan.command ≡ false → IsCopying (mend_step r.plan i server n)
-  mend i server n e = either (is_made r.plan i server) (MendPiece n) (CopyPiece (shard_source r.plan i server) server (Shard i) n) tt e
+  mend i server n e = either (is_made r.plan i server) (MendPiece n) (CopyPiece (shard_source r.plan i server) server (Shard i) n) tt (record { no_encode = e; source = λ same. cc })
 
   shard : (i server n : ℕ) (c : Command) → r.plan.command ≡ c → IsCopying (shard_step r.plan c i server n)
   shard i server n (Encode ratio) e = make n
@@ -82,9 +87,9 @@ module _ (r : Running) where
 
   index : (server n : ℕ) (c : Command) → r.plan.command ≡ c → IsCopying (index_step r.plan c server n)
   index server n (Encode ratio) e = tt
-  index server n Rebuild e = ap is_encode e
-  index server n Balance e = ap is_encode e
-  index server n Decode e = ap is_encode e
+  index server n Rebuild e = record { no_encode = ap is_encode e; source = λ same. refl }
+  index server n Balance e = record { no_encode = ap is_encode e; source = λ same. refl }
+  index server n Decode e = record { no_encode = ap is_encode e; source = λ same. refl }
 
   piece : (server n : ℕ) (kind : Kind) → IsCopying (piece_step r.plan r.place server n kind)
   piece server n Dat = either (nat_lt n r.plan.info.dat_size) (join_step r.plan.info n) (JoinDeletes ((n - r.plan.info.dat_size) / 32)) (join n) tt
@@ -113,43 +118,25 @@ module _ (r : Running) where
       by_file None e = absurd (none_some e)
       by_file (Some s) e = subst IsCopying (some_is (file_step r.plan r.place (turn_of r.states s)) step e) (file (turn_of r.states s))
 
-  -- a decode has found its shards
-  found_of : (server i : ℕ) → Has (list_by r.plan Decode) (server, Shard i) → placed r.plan i server ≡ true
-  found_of server i (inl e) = let clash : ◌≡◌ {A = Kind} Dat (Shard i) = ap (λ (p : ℕ × Kind). p.1) e in cc
-  found_of server i (inr (inl e)) = let clash : ◌≡◌ {A = Kind} Idx (Shard i) = ap (λ (p : ℕ × Kind). p.1) e in cc
-  found_of server i (inr (inr has)) = by_part (has_either (shard_names r.plan.places.items) (flat_map left_names (filter (held r.plan) all_servers)) (server, Shard i) has)
-    where
-      number : (a b : ℕ) → ◌≡◌ {A = Kind} (Shard a) (Shard b) → a ≡ b
-      number a b e = cc
-
-      no_left : (s : ℕ) → Has (left_names s) (server, Shard i) → ⊥
-      no_left s (inl e) = let clash : ◌≡◌ {A = Kind} Ecx (Shard i) = ap (λ (p : ℕ × Kind). p.1) e in cc
-      no_left s (inr (inl e)) = let clash : ◌≡◌ {A = Kind} Ecj (Shard i) = ap (λ (p : ℕ × Kind). p.1) e in cc
-      no_left s (inr (inr (inl e))) = let clash : ◌≡◌ {A = Kind} Vif (Shard i) = ap (λ (p : ℕ × Kind). p.1) e in cc
-      no_left s (inr (inr (inr none))) = absurd none
-
-      by_part : Has (shard_names r.plan.places.items) (server, Shard i) ⊎ Has (flat_map left_names (filter (held r.plan) all_servers)) (server, Shard i) → placed r.plan i server ≡ true
-      by_part (inl shards) =
-          let one = map_has (λ (p : ℕ × ℕ). (p.1, Shard p.0)) r.plan.places.items (server, Shard i) shards in
-          has_any (is_at i server) r.plan.places.items one.0 one.1
-          (and_from (one.0.0 == i) (one.0.1 == server) (eq-eqb one.0.0 i (number one.0.0 i (ap (λ (p : ℕ × Kind). p.1) one.2))) (eq-eqb one.0.1 server (ap (λ (p : ℕ × Kind). p.0) one.2)))
-      by_part (inr left) = let one = flat_has left_names (filter (held r.plan) all_servers) (server, Shard i) left in absurd (no_left one.0 one.2)
-
-  module _ (servers : ℕ) (names : FileNames) (work : IsAtWork r servers names) (from to i at : ℕ) (due : HasPiece r (CopyPiece from to (Shard i) at)) (is : due.file.kind ≡ Shard i) (stepped : next_step r.plan r.states r.place ≡ Some (CopyPiece from to (Shard i) at)) where
-    listed : slice_get (list_of r.plan) due.at ≡ Some (due.file.server, Shard i)
+  module _ (servers : ℕ) (names : FileNames) (work : IsAtWork r servers names) (from to : ℕ) (kind : Kind) (at : ℕ) (due : HasPiece r (CopyPiece from to kind at)) (is : due.file.kind ≡ kind)
+      (stepped : next_step r.plan r.states r.place ≡ Some (CopyPiece from to kind at)) where
+    listed : slice_get (list_of r.plan) due.at ≡ Some (due.file.server, kind)
     listed = ap (λ (files : Names). slice_get files due.at) (sym work.on_its_way.1.listed) ∙ name_at (λ (x : FileState). (x.server, x.kind)) r.states due.at due.file due.there ∙ (λ k. Some (due.file.server, is k))
 
-    none_decode : r.plan.command ≡ Decode → ⊥
-    none_decode e =
-        let has : Has (list_by r.plan Decode) (due.file.server, Shard i) = subst (λ (c : Command). Has (list_by r.plan c) (due.file.server, Shard i)) e (at_has (list_of r.plan) due.at (due.file.server, Shard i) listed) in
-        let new : is_found r.plan Decode due.file.server (Shard i) ≡ false = subst (λ (p : Command × Kind). is_found r.plan p.0 due.file.server p.1 ≡ false) (λ k. (e k, is k)) due.new in
-        false≢true (sym new ∙ found_of due.file.server i has)
+    -- a decode writes the files of the plain volume alone
+    none_decode : kind ≢ Dat → kind ≢ Idx → r.plan.command ≡ Decode → ⊥
+    none_decode no_data no_index e =
+        let new : IsNew r.plan due.file.server kind = subst (IsNew r.plan due.file.server) is due.new in
+        ⊎_elim no_index no_data (new_listed r.plan e due.file.server kind (at_has (list_of r.plan) due.at (due.file.server, kind) listed) new).1
 
-    pub mends : IsMending r.plan.command
-    mends = by_command r.plan.command refl
+    pub mends : kind ≢ Dat → kind ≢ Idx → IsMending r.plan.command
+    mends no_data no_index = by_command r.plan.command refl
       where
         by_command : (c : Command) → r.plan.command ≡ c → IsMending r.plan.command
-        by_command (Encode ratio) e = absurd (false≢true (sym (next (CopyPiece from to (Shard i) at) stepped) ∙ ap is_encode e))
+        by_command (Encode ratio) e = absurd (false≢true (sym (next (CopyPiece from to kind at) stepped).no_encode ∙ ap is_encode e))
         by_command Rebuild e = inl e
         by_command Balance e = inr e
-        by_command Decode e = absurd (none_decode e)
+        by_command Decode e = absurd (none_decode no_data no_index e)
+
+    pub from_holder : kind ≡ Ecx → from ≡ first_holder r.plan.places.items r.plan.home
+    from_holder same = (next (CopyPiece from to kind at) stepped).source same

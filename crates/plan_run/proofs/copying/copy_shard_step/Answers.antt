@@ -10,7 +10,7 @@ use Rattle.plan_steps.specs.Progressing.{running}
 use Rattle.plan_run.specs.Finishing.{IsNamedFile, Does, TouchesTemp, Keeps}
 use Rattle.plan_run.specs.Writing.{Grown, GrownTold}
 use Rattle.plan_run.proofs.AtWork.{here, temp_short, last_short, is_named}
-use Rattle.plan_run.proofs.Copied.{coded, enough, is, listed, from_short, numbered, piece_long, has_room, goes, only, no_index, right}
+use Rattle.plan_run.proofs.Copied.{coded, enough, is, listed, from_short, of_kind, piece_long, has_room, goes, only, no_index, right_shard}
 use Rattle.plan_run.proofs.Journal.{begun_by}
 use Rattle.plan_run.proofs.Looked.{undone, read_few, then_few, then_fails}
 use Rattle.plan_run.proofs.Mending.{mends}
@@ -18,26 +18,26 @@ use Rattle.plan_run.proofs.Moved.{grow_steps_of}
 use Rattle.plan_run.proofs.copying.copy_shard_step.Goals as goal
 
 pub place_of-place-requires-clause-there : goal.place_of-place-requires-clause-there
-place_of-place-requires-clause-there g c = listed (running c.args.plan.now c.args.progress.now) (g.T.Site.servers c.args.site.now) c.args.names.now c.requires.work c.args.from c.args.to c.args.shard c.args.at c.requires.due
+place_of-place-requires-clause-there g c = listed (running c.args.plan.now c.args.progress.now) (g.T.Site.servers c.args.site.now) c.args.names.now c.requires.work c.args.from c.args.to (Shard c.args.shard) c.args.at c.requires.due
 
 pub shard_piece-size-requires-clause-at : goal.shard_piece-size-requires-clause-at
-shard_piece-size-requires-clause-at g c = from_short (running c.args.plan.now c.args.progress.now) (g.T.Site.servers c.args.site.now) c.args.names.now c.requires.work c.args.from c.args.to c.args.shard c.args.at c.requires.due
+shard_piece-size-requires-clause-at g c = from_short (running c.args.plan.now c.args.progress.now) (g.T.Site.servers c.args.site.now) c.args.names.now c.requires.work c.args.from c.args.to (Shard c.args.shard) c.args.at c.requires.due
 
 pub read_part-requires-clause-coded : goal.read_part-requires-clause-coded
-read_part-requires-clause-coded g c = λ told. coded (running c.args.plan.now c.args.progress.now) (g.T.Site.servers c.args.site.now) c.args.names.now c.requires.work (mends (running c.args.plan.now c.args.progress.now) (g.T.Site.servers c.args.site.now) c.args.names.now c.requires.work c.args.from c.args.to c.args.shard c.args.at c.requires.due.0 (is (running c.args.plan.now c.args.progress.now) (g.T.Site.servers c.args.site.now) c.args.names.now c.requires.work c.args.from c.args.to c.args.shard c.args.at c.requires.due).1 c.requires.next) (g.T.Site.disk c.args.site.now).files
+read_part-requires-clause-coded g c = λ told. coded (running c.args.plan.now c.args.progress.now) (g.T.Site.servers c.args.site.now) c.args.names.now c.requires.work (mends (running c.args.plan.now c.args.progress.now) (g.T.Site.servers c.args.site.now) c.args.names.now c.requires.work c.args.from c.args.to (Shard c.args.shard) c.args.at c.requires.due.0 (is (running c.args.plan.now c.args.progress.now) (g.T.Site.servers c.args.site.now) c.args.names.now c.requires.work c.args.from c.args.to (Shard c.args.shard) c.args.at c.requires.due).1 c.requires.next (λ e. cc) (λ e. cc)) (g.T.Site.disk c.args.site.now).files
 
 pub read_part-requires-clause-enough : goal.read_part-requires-clause-enough
-read_part-requires-clause-enough g c = enough (running c.args.plan.now c.args.progress.now) (g.T.Site.servers c.args.site.now) c.args.names.now c.requires.work (mends (running c.args.plan.now c.args.progress.now) (g.T.Site.servers c.args.site.now) c.args.names.now c.requires.work c.args.from c.args.to c.args.shard c.args.at c.requires.due.0 (is (running c.args.plan.now c.args.progress.now) (g.T.Site.servers c.args.site.now) c.args.names.now c.requires.work c.args.from c.args.to c.args.shard c.args.at c.requires.due).1 c.requires.next) c.args.table.now c.requires.table
+read_part-requires-clause-enough g c = enough (running c.args.plan.now c.args.progress.now) (g.T.Site.servers c.args.site.now) c.args.names.now c.requires.work (mends (running c.args.plan.now c.args.progress.now) (g.T.Site.servers c.args.site.now) c.args.names.now c.requires.work c.args.from c.args.to (Shard c.args.shard) c.args.at c.requires.due.0 (is (running c.args.plan.now c.args.progress.now) (g.T.Site.servers c.args.site.now) c.args.names.now c.requires.work c.args.from c.args.to (Shard c.args.shard) c.args.at c.requires.due).1 c.requires.next (λ e. cc) (λ e. cc)) c.args.table.now c.requires.table
 
 pub read_part-requires-clause-shard : goal.read_part-requires-clause-shard
-read_part-requires-clause-shard g c = numbered (running c.args.plan.now c.args.progress.now) (g.T.Site.servers c.args.site.now) c.args.names.now c.requires.work c.args.from c.args.to c.args.shard c.args.at c.requires.due
+read_part-requires-clause-shard g c = of_kind (running c.args.plan.now c.args.progress.now) (g.T.Site.servers c.args.site.now) c.args.names.now c.requires.work c.args.from c.args.to (Shard c.args.shard) c.args.at c.requires.due
 
 pub read_part-requires-clause-range : goal.read_part-requires-clause-range
 read_part-requires-clause-range g c = omega (
   arith,
   length-take c.shard_piece-size.result c.args.room.now,
   c.shard_piece-size.ensures.size,
-  from_short (running c.args.plan.now c.args.progress.now) (g.T.Site.servers c.args.site.now) c.args.names.now c.requires.work c.args.from c.args.to c.args.shard c.args.at c.requires.due,
+  from_short (running c.args.plan.now c.args.progress.now) (g.T.Site.servers c.args.site.now) c.args.names.now c.requires.work c.args.from c.args.to (Shard c.args.shard) c.args.at c.requires.due,
 )
 
 pub returns-in_err-read_part-clause-steps : goal.returns-in_err-read_part-clause-steps
@@ -53,42 +53,42 @@ returns-in_err-read_part-clause-few g c =
 
 pub temp-requires : goal.temp-requires
 temp-requires g c = temp_short (running c.args.plan.now c.args.progress.now) (g.T.Site.servers c.args.site.now) c.args.names.now c.requires.work c.place_of-place.result c.requires.due.0.at c.requires.due.0.file
-    (c.place_of-place.ensures c.requires.due.0.at c.requires.due.0.file c.requires.due.0.there (is (running c.args.plan.now c.args.progress.now) (g.T.Site.servers c.args.site.now) c.args.names.now c.requires.work c.args.from c.args.to c.args.shard c.args.at c.requires.due).0 (is (running c.args.plan.now c.args.progress.now) (g.T.Site.servers c.args.site.now) c.args.names.now c.requires.work c.args.from c.args.to c.args.shard c.args.at c.requires.due).1) c.requires.due.0.there
+    (c.place_of-place.ensures c.requires.due.0.at c.requires.due.0.file c.requires.due.0.there (is (running c.args.plan.now c.args.progress.now) (g.T.Site.servers c.args.site.now) c.args.names.now c.requires.work c.args.from c.args.to (Shard c.args.shard) c.args.at c.requires.due).0 (is (running c.args.plan.now c.args.progress.now) (g.T.Site.servers c.args.site.now) c.args.names.now c.requires.work c.args.from c.args.to (Shard c.args.shard) c.args.at c.requires.due).1) c.requires.due.0.there
 
 pub last-requires : goal.last-requires
 last-requires g c = last_short (running c.args.plan.now c.args.progress.now) (g.T.Site.servers c.args.site.now) c.args.names.now c.requires.work c.place_of-place.result c.requires.due.0.at c.requires.due.0.file
-    (c.place_of-place.ensures c.requires.due.0.at c.requires.due.0.file c.requires.due.0.there (is (running c.args.plan.now c.args.progress.now) (g.T.Site.servers c.args.site.now) c.args.names.now c.requires.work c.args.from c.args.to c.args.shard c.args.at c.requires.due).0 (is (running c.args.plan.now c.args.progress.now) (g.T.Site.servers c.args.site.now) c.args.names.now c.requires.work c.args.from c.args.to c.args.shard c.args.at c.requires.due).1) c.requires.due.0.there
+    (c.place_of-place.ensures c.requires.due.0.at c.requires.due.0.file c.requires.due.0.there (is (running c.args.plan.now c.args.progress.now) (g.T.Site.servers c.args.site.now) c.args.names.now c.requires.work c.args.from c.args.to (Shard c.args.shard) c.args.at c.requires.due).0 (is (running c.args.plan.now c.args.progress.now) (g.T.Site.servers c.args.site.now) c.args.names.now c.requires.work c.args.from c.args.to (Shard c.args.shard) c.args.at c.requires.due).1) c.requires.due.0.there
 
 pub grow_file-requires-clause-file : goal.grow_file-requires-clause-file
 grow_file-requires-clause-file g c =
     subst (λ n. IsNamedFile c.args.plan.now.volume n c.args.progress.now.files.items c.place_of-place.result c.temp.result.now c.last.result.now) (sym c.in_ok-read_part.ensures.reads.runs.servers)
     (is_named (running c.args.plan.now c.args.progress.now) (g.T.Site.servers c.args.site.now) c.args.names.now c.requires.work c.place_of-place.result c.requires.due.0.at c.requires.due.0.file
-    (c.place_of-place.ensures c.requires.due.0.at c.requires.due.0.file c.requires.due.0.there (is (running c.args.plan.now c.args.progress.now) (g.T.Site.servers c.args.site.now) c.args.names.now c.requires.work c.args.from c.args.to c.args.shard c.args.at c.requires.due).0 (is (running c.args.plan.now c.args.progress.now) (g.T.Site.servers c.args.site.now) c.args.names.now c.requires.work c.args.from c.args.to c.args.shard c.args.at c.requires.due).1) c.requires.due.0.there c.temp.result.now c.last.result.now c.temp.ensures c.last.ensures)
+    (c.place_of-place.ensures c.requires.due.0.at c.requires.due.0.file c.requires.due.0.there (is (running c.args.plan.now c.args.progress.now) (g.T.Site.servers c.args.site.now) c.args.names.now c.requires.work c.args.from c.args.to (Shard c.args.shard) c.args.at c.requires.due).0 (is (running c.args.plan.now c.args.progress.now) (g.T.Site.servers c.args.site.now) c.args.names.now c.requires.work c.args.from c.args.to (Shard c.args.shard) c.args.at c.requires.due).1) c.requires.due.0.there c.temp.result.now c.last.result.now c.temp.ensures c.last.ensures)
 
 pub grow_file-requires-clause-room : goal.grow_file-requires-clause-room
 grow_file-requires-clause-room g c = λ s at. subst (λ n. s.length + n < 2 ^ 64) (sym (ap length (take_at c.read_part.new.out (drop c.shard_piece-size.result c.args.room.now) c.shard_piece-size.result (piece_long c.shard_piece-size.result c.args.room.now c.read_part.new.out (omega (arith, c.shard_piece-size.ensures.size, c.requires.room)) c.read_part.ensures.size)) ∙ (piece_long c.shard_piece-size.result c.args.room.now c.read_part.new.out (omega (arith, c.shard_piece-size.ensures.size, c.requires.room)) c.read_part.ensures.size)))
-    (has_room (running c.args.plan.now c.args.progress.now) (g.T.Site.servers c.args.site.now) c.args.names.now c.requires.work c.args.from c.args.to c.args.shard c.args.at c.requires.due c.place_of-place.result c.shard_piece-size.result
-    (c.place_of-place.ensures c.requires.due.0.at c.requires.due.0.file c.requires.due.0.there (is (running c.args.plan.now c.args.progress.now) (g.T.Site.servers c.args.site.now) c.args.names.now c.requires.work c.args.from c.args.to c.args.shard c.args.at c.requires.due).0 (is (running c.args.plan.now c.args.progress.now) (g.T.Site.servers c.args.site.now) c.args.names.now c.requires.work c.args.from c.args.to c.args.shard c.args.at c.requires.due).1) c.shard_piece-size.ensures.fits s at)
+    (has_room (running c.args.plan.now c.args.progress.now) (g.T.Site.servers c.args.site.now) c.args.names.now c.requires.work c.args.from c.args.to (Shard c.args.shard) c.args.at c.requires.due c.place_of-place.result c.shard_piece-size.result
+    (c.place_of-place.ensures c.requires.due.0.at c.requires.due.0.file c.requires.due.0.there (is (running c.args.plan.now c.args.progress.now) (g.T.Site.servers c.args.site.now) c.args.names.now c.requires.work c.args.from c.args.to (Shard c.args.shard) c.args.at c.requires.due).0 (is (running c.args.plan.now c.args.progress.now) (g.T.Site.servers c.args.site.now) c.args.names.now c.requires.work c.args.from c.args.to (Shard c.args.shard) c.args.at c.requires.due).1) c.shard_piece-size.ensures.fits s at)
 
 pub returns-clause-steps : goal.returns-clause-steps
 returns-clause-steps g c =
     grow_steps_of (IsTrue g.T.Site.tells) c.args.plan.now c.requires.work.below c.args.progress.now c.grow_file.new.progress c.requires.work.on_its_way.1.apart c.place_of-place.result c.requires.due.0.file
     (here (running c.args.plan.now c.args.progress.now) (g.T.Site.servers c.args.site.now) c.args.names.now c.requires.work c.place_of-place.result c.requires.due.0.at c.requires.due.0.file
-    (c.place_of-place.ensures c.requires.due.0.at c.requires.due.0.file c.requires.due.0.there (is (running c.args.plan.now c.args.progress.now) (g.T.Site.servers c.args.site.now) c.args.names.now c.requires.work c.args.from c.args.to c.args.shard c.args.at c.requires.due).0 (is (running c.args.plan.now c.args.progress.now) (g.T.Site.servers c.args.site.now) c.args.names.now c.requires.work c.args.from c.args.to c.args.shard c.args.at c.requires.due).1) c.requires.due.0.there) (g.T.Site.disk c.args.site.now) (g.T.Site.disk c.grow_file.new.site) (step.CopyPiece c.args.from c.args.to (Shard c.args.shard) c.args.at) 0 c.read_part.new.out
-    (begun_by c.requires.due.0.file.stage c.requires.due.0.behind) (sym ((piece_long c.shard_piece-size.result c.args.room.now c.read_part.new.out (omega (arith, c.shard_piece-size.ensures.size, c.requires.room)) c.read_part.ensures.size) ∙ c.shard_piece-size.ensures.size)) (goes (running c.args.plan.now c.args.progress.now) (g.T.Site.servers c.args.site.now) c.args.names.now c.requires.work c.args.from c.args.to c.args.shard c.args.at c.requires.due)
-    (only (running c.args.plan.now c.args.progress.now) (g.T.Site.servers c.args.site.now) c.args.names.now c.requires.work c.args.from c.args.to c.args.shard c.args.at c.requires.due c.place_of-place.result
-    (c.place_of-place.ensures c.requires.due.0.at c.requires.due.0.file c.requires.due.0.there (is (running c.args.plan.now c.args.progress.now) (g.T.Site.servers c.args.site.now) c.args.names.now c.requires.work c.args.from c.args.to c.args.shard c.args.at c.requires.due).0 (is (running c.args.plan.now c.args.progress.now) (g.T.Site.servers c.args.site.now) c.args.names.now c.requires.work c.args.from c.args.to c.args.shard c.args.at c.requires.due).1))
-    (λ told. right (running c.args.plan.now c.args.progress.now) (g.T.Site.servers c.args.site.now) c.args.names.now c.requires.work c.args.from c.args.to c.args.shard c.args.at c.requires.due (g.T.Site.disk c.args.site.now).files c.read_part.new.out (c.in_ok-read_part.ensures.part told)) (no_index (running c.args.plan.now c.args.progress.now) (g.T.Site.servers c.args.site.now) c.args.names.now c.requires.work c.args.from c.args.to c.args.shard c.args.at c.requires.due) (λ u. refl) (λ n e. e)
+    (c.place_of-place.ensures c.requires.due.0.at c.requires.due.0.file c.requires.due.0.there (is (running c.args.plan.now c.args.progress.now) (g.T.Site.servers c.args.site.now) c.args.names.now c.requires.work c.args.from c.args.to (Shard c.args.shard) c.args.at c.requires.due).0 (is (running c.args.plan.now c.args.progress.now) (g.T.Site.servers c.args.site.now) c.args.names.now c.requires.work c.args.from c.args.to (Shard c.args.shard) c.args.at c.requires.due).1) c.requires.due.0.there) (g.T.Site.disk c.args.site.now) (g.T.Site.disk c.grow_file.new.site) (step.CopyPiece c.args.from c.args.to (Shard c.args.shard) c.args.at) 0 c.read_part.new.out
+    (begun_by c.requires.due.0.file.stage c.requires.due.0.behind) (sym ((piece_long c.shard_piece-size.result c.args.room.now c.read_part.new.out (omega (arith, c.shard_piece-size.ensures.size, c.requires.room)) c.read_part.ensures.size) ∙ c.shard_piece-size.ensures.size)) (goes (running c.args.plan.now c.args.progress.now) (g.T.Site.servers c.args.site.now) c.args.names.now c.requires.work c.args.from c.args.to (Shard c.args.shard) c.args.at c.requires.due)
+    (only (running c.args.plan.now c.args.progress.now) (g.T.Site.servers c.args.site.now) c.args.names.now c.requires.work c.args.from c.args.to (Shard c.args.shard) c.args.at c.requires.due c.place_of-place.result
+    (c.place_of-place.ensures c.requires.due.0.at c.requires.due.0.file c.requires.due.0.there (is (running c.args.plan.now c.args.progress.now) (g.T.Site.servers c.args.site.now) c.args.names.now c.requires.work c.args.from c.args.to (Shard c.args.shard) c.args.at c.requires.due).0 (is (running c.args.plan.now c.args.progress.now) (g.T.Site.servers c.args.site.now) c.args.names.now c.requires.work c.args.from c.args.to (Shard c.args.shard) c.args.at c.requires.due).1))
+    (λ told. right_shard (running c.args.plan.now c.args.progress.now) (g.T.Site.servers c.args.site.now) c.args.names.now c.requires.work c.args.from c.args.to c.args.shard c.args.at c.requires.due (g.T.Site.disk c.args.site.now).files c.read_part.new.out (c.in_ok-read_part.ensures.part told)) (no_index (running c.args.plan.now c.args.progress.now) (g.T.Site.servers c.args.site.now) c.args.names.now c.requires.work c.args.from c.args.to (Shard c.args.shard) c.args.at c.requires.due (λ e. cc)) (λ u. refl) (λ n e. e)
     (take c.shard_piece-size.result (c.read_part.new.out ++ drop c.shard_piece-size.result c.args.room.now)) (take_at c.read_part.new.out (drop c.shard_piece-size.result c.args.room.now) c.shard_piece-size.result (piece_long c.shard_piece-size.result c.args.room.now c.read_part.new.out (omega (arith, c.shard_piece-size.ensures.size, c.requires.room)) c.read_part.ensures.size)) c.grow_file.result
     (λ told. subst (λ (d : Disk). Does (TouchesTemp (running c.args.plan.now c.args.progress.now) c.place_of-place.result d (g.T.Site.disk c.grow_file.new.site)) (Keeps (running c.args.plan.now c.args.progress.now) c.place_of-place.result d (g.T.Site.disk c.grow_file.new.site)) (Grown (running c.args.plan.now c.args.progress.now) c.place_of-place.result (take c.shard_piece-size.result (c.read_part.new.out ++ drop c.shard_piece-size.result c.args.room.now)) d (g.T.Site.disk c.grow_file.new.site) (running c.args.plan.now c.grow_file.new.progress)) (GrownTold (running c.args.plan.now c.args.progress.now) c.place_of-place.result d (g.T.Site.disk c.grow_file.new.site) (running c.args.plan.now c.grow_file.new.progress)) c.grow_file.result)
     (c.in_ok-read_part.ensures.reads.same told) (c.grow_file.ensures.effect told)) c.grow_file.ensures.state
 
 pub returns-clause-few : goal.returns-clause-few
 returns-clause-few g c = then_few c.grow_file.result c.in_ok-read_part.ensures.reads (c.grow_file.ensures.runs c.requires.due.0.file (here (running c.args.plan.now c.args.progress.now) (g.T.Site.servers c.args.site.now) c.args.names.now c.requires.work c.place_of-place.result c.requires.due.0.at c.requires.due.0.file
-    (c.place_of-place.ensures c.requires.due.0.at c.requires.due.0.file c.requires.due.0.there (is (running c.args.plan.now c.args.progress.now) (g.T.Site.servers c.args.site.now) c.args.names.now c.requires.work c.args.from c.args.to c.args.shard c.args.at c.requires.due).0 (is (running c.args.plan.now c.args.progress.now) (g.T.Site.servers c.args.site.now) c.args.names.now c.requires.work c.args.from c.args.to c.args.shard c.args.at c.requires.due).1) c.requires.due.0.there))
+    (c.place_of-place.ensures c.requires.due.0.at c.requires.due.0.file c.requires.due.0.there (is (running c.args.plan.now c.args.progress.now) (g.T.Site.servers c.args.site.now) c.args.names.now c.requires.work c.args.from c.args.to (Shard c.args.shard) c.args.at c.requires.due).0 (is (running c.args.plan.now c.args.progress.now) (g.T.Site.servers c.args.site.now) c.args.names.now c.requires.work c.args.from c.args.to (Shard c.args.shard) c.args.at c.requires.due).1) c.requires.due.0.there))
     (omega (arith, ap length (take_at c.read_part.new.out (drop c.shard_piece-size.result c.args.room.now) c.shard_piece-size.result (piece_long c.shard_piece-size.result c.args.room.now c.read_part.new.out (omega (arith, c.shard_piece-size.ensures.size, c.requires.room)) c.read_part.ensures.size)), (piece_long c.shard_piece-size.result c.args.room.now c.read_part.new.out (omega (arith, c.shard_piece-size.ensures.size, c.requires.room)) c.read_part.ensures.size), c.shard_piece-size.ensures.size))
 
 pub returns-clause-fails : goal.returns-clause-fails
 returns-clause-fails g c =
     then_fails c.args.plan.now.info (row_of c.args.table.now c.args.plan.now.volume) c.grow_file.result c.in_ok-read_part.ensures.reads (c.grow_file.ensures.runs c.requires.due.0.file (here (running c.args.plan.now c.args.progress.now) (g.T.Site.servers c.args.site.now) c.args.names.now c.requires.work c.place_of-place.result c.requires.due.0.at c.requires.due.0.file
-    (c.place_of-place.ensures c.requires.due.0.at c.requires.due.0.file c.requires.due.0.there (is (running c.args.plan.now c.args.progress.now) (g.T.Site.servers c.args.site.now) c.args.names.now c.requires.work c.args.from c.args.to c.args.shard c.args.at c.requires.due).0 (is (running c.args.plan.now c.args.progress.now) (g.T.Site.servers c.args.site.now) c.args.names.now c.requires.work c.args.from c.args.to c.args.shard c.args.at c.requires.due).1) c.requires.due.0.there))
+    (c.place_of-place.ensures c.requires.due.0.at c.requires.due.0.file c.requires.due.0.there (is (running c.args.plan.now c.args.progress.now) (g.T.Site.servers c.args.site.now) c.args.names.now c.requires.work c.args.from c.args.to (Shard c.args.shard) c.args.at c.requires.due).0 (is (running c.args.plan.now c.args.progress.now) (g.T.Site.servers c.args.site.now) c.args.names.now c.requires.work c.args.from c.args.to (Shard c.args.shard) c.args.at c.requires.due).1) c.requires.due.0.there))

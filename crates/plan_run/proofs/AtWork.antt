@@ -35,6 +35,7 @@ use Rattle.plan_steps.specs.Laws.Within.{state_within}
 use Rattle.plan_steps.specs.Progressing.{Running}
 use Rattle.plan_run.specs.declared.names.FileNames.{FileNames}
 use Rattle.plan_run.specs.Finishing.{IsNamedFile, TempStands}
+use Rattle.plan_run.specs.Names.{name_for}
 use Rattle.plan_run.specs.Stepping.{IsAtWork}
 use Rattle.plan_run.proofs.Named.{named_file}
 
@@ -82,13 +83,19 @@ module _ (r : Running) (servers : ℕ) (names : FileNames) (work : IsAtWork r se
   pub last_short : place < length names.lasts.items
   last_short = omega (arith, (named_file (map string_bytes names.lasts.items) r.plan.volume false (list_of r.plan) place s.server s.kind work.named.lasts_are named).0, length-map names.lasts.items string_bytes)
 
+  pub server_short : s.server < servers
+  server_short = within.0
+
+  pub temp_is : (temp : List ℕ) → temp ≡ get_or (map string_bytes names.temps.items) place [] → temp ≡ name_for r.plan.volume true (s.server, s.kind)
+  temp_is temp is_temp = is_temp ∙ (named_file (map string_bytes names.temps.items) r.plan.volume true (list_of r.plan) place s.server s.kind work.named.temps_are named).1
+
   pub is_named : (temp last : List ℕ) → temp ≡ get_or (map string_bytes names.temps.items) place [] → last ≡ get_or (map string_bytes names.lasts.items) place []
       → IsNamedFile r.plan.volume servers r.states place temp last
   is_named temp last is_temp is_last = record {
     file = s;
     at = here;
     server = within.0;
-    temp = is_temp ∙ (named_file (map string_bytes names.temps.items) r.plan.volume true (list_of r.plan) place s.server s.kind work.named.temps_are named).1;
+    temp = temp_is temp is_temp;
     final = is_last ∙ (named_file (map string_bytes names.lasts.items) r.plan.volume false (list_of r.plan) place s.server s.kind work.named.lasts_are named).1;
   }
 

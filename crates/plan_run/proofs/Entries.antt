@@ -1,4 +1,4 @@
--- Pieces of a coded index, which an encode writes. For the step that writes entries, to come.
+-- Pieces of a coded index, which an encode writes.
 use Rattle.std.proofs.Common.{◌≡◌, ℕ, zero, suc, ◌+◌, ◌-◌, ◌*◌, ◌<◌, ◌≤◌, List, [], ◌∷◌, ◌++◌, length, take, drop, get_or, refl, sym, ◌∙◌, ap, arith, length-append, take-append-drop}
 use Rattle.std.specs.Prelude.{flat_map, min}
 use Rattle.std.specs.Int.{w32, cast_unsigned}
@@ -17,7 +17,7 @@ entry_long e =
     ∙ ap (λ n. n + length (bytes_of 4 (cast_unsigned w32 e.size))) (length-append (bytes_of 8 e.id) (bytes_of 4 e.offset))
     ∙ λ i. length-bytes_of 8 e.id i + length-bytes_of 4 e.offset i + length-bytes_of 4 (cast_unsigned w32 e.size) i
 
-entries_long : (es : List Entry) → length (flat_map entry_bytes es) ≡ 16 * length es
+pub entries_long : (es : List Entry) → length (flat_map entry_bytes es) ≡ 16 * length es
 entries_long [] = refl
 entries_long (e ∷ es) = length-append (entry_bytes e) (flat_map entry_bytes es) ∙ omega (arith, entry_long e, entries_long es)
 

@@ -78,14 +78,14 @@ journal_piece ids k n short =
     ∙ take_at (journal_bytes (take n rest)) (journal_bytes (drop n rest)) (16 * min n (length ids - k)) (length-journal_bytes (take n rest) ∙ ap (λ m. 16 * m) count))
 
 -- the ids of a piece
-pub front_of : (xs : List ℕ) (at n : ℕ) → n ≡ min (length (take (length xs - at) (drop at xs))) 2048 → take n (take (length xs - at) (drop at xs)) ≡ take 2048 (drop at xs)
-front_of xs at n is = ap (take n) all ∙ by_length (cases_lt 2048 (length (drop at xs)))
+pub front_of : {A : Type 0} (xs : List A) (at n : ℕ) → n ≡ min (length (take (length xs - at) (drop at xs))) 2048 → take n (take (length xs - at) (drop at xs)) ≡ take 2048 (drop at xs)
+front_of {A} xs at n is = ap (take n) all ∙ by_length (cases_lt 2048 (length (drop at xs)))
   where
     all : take (length xs - at) (drop at xs) ≡ drop at xs
     all = take_all (length xs - at) (drop at xs) (omega (arith, length-drop at xs))
 
     count : n ≡ min (length (drop at xs)) 2048
-    count = is ∙ ap (λ (l : List ℕ). min (length l) 2048) all
+    count = is ∙ ap (λ (l : List A). min (length l) 2048) all
 
     by_length : (2048 < length (drop at xs)) ⊎ (length (drop at xs) ≤ 2048) → take n (drop at xs) ≡ take 2048 (drop at xs)
     by_length (inl more) = let full : n ≡ 2048 = omega (arith, count, more) in ap (λ m. take m (drop at xs)) full

@@ -1,5 +1,5 @@
--- Pieces of several files, put one after another. For the steps that write to more than one file, to come.
-use Rattle.std.proofs.Common.{◌≡◌, ◌≢◌, ◌⊎◌, ⊎_elim, inl, inr, ℕ, zero, suc, ◌<◌, true, false, List, [], ◌∷◌, length, map, Some, refl, sym, ◌∙◌, ap, subst, arith}
+-- Pieces of several files, put one after another.
+use Rattle.std.proofs.Common.{◌≡◌, ◌≢◌, ◌⊎◌, ⊎_elim, inl, inr, ℕ, zero, suc, ◌+◌, ◌<◌, true, false, List, [], ◌∷◌, length, map, get_or, Some, refl, sym, ◌∙◌, ap, subst, arith}
 use Rattle.std.specs.Prelude.{slice_get, slice_set, Result, Ok, Err, MatchResult}
 use Rattle.image_meaning.specs.Laws.Options.{none_some, some_is}
 use Rattle.image_meaning.specs.Laws.Copy.{temp_apart, volumes_apart}
@@ -9,6 +9,7 @@ use Rattle.site_model.specs.Disk.{Disk, Appends, grown}
 use Rattle.site_model.specs.Touches.{Touches, touches_none, touches_on, touches_more, touches_append}
 use Rattle.site_model.specs.declared.error.DeviceFault.{DeviceFault}
 use Rattle.std.proofs.lemmas.Bool.{cases_eq}
+use Rattle.std.proofs.lemmas.Option.{slice_get_read}
 use Rattle.world_model.specs.World.{Volume}
 use Rattle.file_names.specs.declared.Kind.{Kind}
 use Rattle.file_names.specs.declared.Kind.TheVariants.{Idx}
@@ -26,24 +27,14 @@ use Rattle.plan_steps.specs.Laws.Way.{way_still, next_still}
 use Rattle.plan_steps.specs.Laws.AsTold.{growing_told}
 use Rattle.plan_steps.specs.Laws.Progress.{progress_firm, growing_fits}
 use Rattle.plan_steps.specs.After.{grown_by, after, PlaceAfter}
-use Rattle.plan_steps.specs.AsTold.{StandsAsTold}
 use Rattle.plan_steps.specs.Progressing.{Running, IsOnItsWay, FitsProgress}
 use Rattle.plan_steps.specs.Stepping.{TriesStep}
+use Rattle.plan_run.specs.Growing.{with_states, GrowsTo}
 use Rattle.plan_run.specs.Pieces.{IsPiece}
 use Rattle.plan_run.specs.Stepping.{Steps}
 
 abbrev Answer : Type 0
 Answer = Result (Unit {0}) DeviceFault
-
--- the plan with its files at these states
-abbrev pub with_states : Running → List FileState → Running
-with_states r states = record r { states = states }
-
--- From the files as they were, calls on temporary files alone came to files that stand by these states.
-pub record GrowsTo (r : Running) (states : List FileState) (old mid : Disk) : Type 0 where
-  pub touches : Touches (IsTempOf r.plan.volume) old mid
-  pub told : StandsAsTold r.plan r.states (share_of old.files r.plan.volume) → StandsAsTold r.plan states (share_of mid.files r.plan.volume)
-  pub fits : (w : Volume) (f : Forms) (row : Row) (start : Share) → FitsProgress w f r row start (share_of old.files r.plan.volume) → FitsProgress w f (with_states r states) row start (share_of mid.files r.plan.volume)
 
 -- ---- the front of a list that has changed
 
@@ -74,6 +65,24 @@ pub front_idle : {A : Type 0} (g : A → A) (n : ℕ) (xs : List A) (x : A) → 
 front_idle g n [] x at same = absurd (none_some at)
 front_idle g zero (y ∷ ys) x at same = ap (λ z. z ∷ ys) (some_is y x at ∙ sym same ∙ ap g (sym (some_is y x at)))
 front_idle g (suc n) (y ∷ ys) x at same = ap (λ zs. g y ∷ zs) (front_idle g n ys x at same)
+
+pub front_long : {A : Type 0} (g : A → A) (n : ℕ) (xs : List A) → length (front_changed g n xs) ≡ length xs
+front_long g zero xs = refl
+front_long g (suc n) [] = refl
+front_long g (suc n) (x ∷ xs) = ap suc (front_long g n xs)
+
+-- the next member, as it is read of the list with a front that has changed
+module _ {A : Type 0} (g : A → A) (n : ℕ) (xs ys : List A) (x : A) (is : ys ≡ front_changed g n xs) (short : n < length ys) (read : x ≡ get_or ys n x) where
+  pub front_read : slice_get xs n ≡ Some x
+  front_read = sym (front_there g n xs) ∙ ap (λ zs. slice_get zs n) (sym is) ∙ slice_get_read ys (length ys) n x refl short read
+
+  pub front_next : slice_set ys n (g x) ≡ front_changed g (n + 1) xs
+  front_next =
+      let next : suc n ≡ n + 1 = omega arith in
+      ap (λ zs. slice_set zs n (g x)) is ∙ front_on g n xs x front_read ∙ ap (λ m. front_changed g m xs) next
+
+pub front_end : {A : Type 0} (g : A → A) (n : ℕ) (xs ys : List A) → ys ≡ front_changed g n xs → n ≡ length xs → ys ≡ map g xs
+front_end g n xs ys is whole = is ∙ ap (λ m. front_changed g m xs) whole ∙ front_all g xs
 
 -- ---- calls one after another
 

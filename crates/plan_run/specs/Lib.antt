@@ -6,4 +6,5 @@ pub mod Running
 pub mod Stepping
 pub mod Places
 pub mod Pieces
+pub mod Growing
 pub mod Copying

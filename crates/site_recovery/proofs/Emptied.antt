@@ -1,5 +1,5 @@
 -- What is left where listed files are removed.
-use Rattle.std.proofs.Common.{◌≡◌, inl, inr, ⊎_elim, ℕ, ◌<◌, Bool, true, false, List, Option, Some, None, is_some, refl, sym, ◌∙◌, ap}
+use Rattle.std.proofs.Common.{◌≡◌, ◌≢◌, inl, inr, ⊎_elim, ℕ, ◌<◌, Bool, true, false, List, Option, Some, None, is_some, refl, sym, ◌∙◌, ap}
 use Rattle.std.specs.Prelude.{Contains}
 use Rattle.std.specs.List.{All}
 use Rattle.std.proofs.lemmas.List.Elements.{All-contains}
@@ -7,7 +7,8 @@ use mathlib.Core.Bool.{true≢false}
 use Rattle.site_model.specs.Disk.{Place, File, Files, Image, Disk}
 use Rattle.site_model.specs.Disk as disk
 use Rattle.file_names.specs.declared.Kind.{Kind}
-use Rattle.file_names.specs.Names.{IsKind, IsName, place_of}
+use Rattle.file_names.specs.declared.FileName.{FileName}
+use Rattle.file_names.specs.Names.{IsKind, IsName, name_bytes, place_of}
 use Rattle.image_meaning.specs.Files.{contents, files_of}
 use Rattle.image_meaning.specs.Meaning.{mode_of, max_volumes}
 use Rattle.site_recovery.specs.declared.forms.Listed.{Listed}
@@ -15,10 +16,10 @@ use Rattle.site_recovery.specs.declared.forms.Goes.{Goes}
 use Rattle.site_recovery.specs.declared.forms.Goes.TheVariants as goes
 use Rattle.site_recovery.specs.Recovering.{IsNamed}
 use Rattle.site_recovery.specs.Steps.{KeepsMeaning}
-use Rattle.site_recovery.specs.Changes.{LacksSome, TakesAway, Settles}
+use Rattle.site_recovery.specs.Changes.{IsKindAt, LacksSome, TakesAway, Settles}
 use Rattle.site_recovery.specs.CodedSettling.{IsVolumeFile}
 use Rattle.site_recovery.specs.Listing.{IsFileIn, AreFilesIn}
-use Rattle.site_recovery.specs.Removing.{place_in, IsGoing, IsGoingAmong, AreGone, HasFilesOf, AreTempsGone, IsVolumeGone}
+use Rattle.site_recovery.specs.Removing.{place_in, IsGoing, IsGoingAmong, AreGone, AreListedBut, HasFilesOf, AreTempsGone, IsVolumeGone}
 use Rattle.site_recovery.specs.Laws.Step.{keeps_temps, keeps_absent}
 use Rattle.site_recovery.proofs.Places.{same_place}
 use Rattle.site_recovery.proofs.Taking.{lacks_settled, settles_takes, settles_more}
@@ -50,7 +51,7 @@ module _ (found : List Listed) (named : All (λ (l : Listed). IsName l.file) fou
   temps_settled {old} takes = settles_more (going_named goes.Temporary) (settles_takes (λ image lacks. keeps_no_temps (contents old.files) image lacks) takes)
 
 -- a file that was listed, if it stood, is gone
-listed_gone : (which : Goes) (found : List Listed) (old new : Files) → LacksSome (IsGoingAmong which found) old new → AreGone which found new
+pub listed_gone : (which : Goes) (found : List Listed) (old new : Files) → LacksSome (IsGoingAmong which found) old new → AreGone which found new
     → (l : Listed) → IsName l.file → IsGoing which l → (IsFileIn old l → Contains found l) → new (place_in l) ≡ None
 listed_gone which found old new lacks gone l name is among = by_old (old (place_in l)) refl
   where
@@ -99,3 +100,15 @@ module _ (v : ℕ) (h : v < max_volumes) (its : List Listed) (named : All (λ (l
     none = λ server kind low is. ap disk.standing (listed_gone goes.Final its old new lacks gone (file_at v server kind false) (record { volume = h; kind = is }) refl (λ file. all (file_at v server kind false) file refl));
     settled = λ settled. lacks_settled lacks settled;
   }
+
+-- ---- the files of one kind
+
+-- those of this kind that go are at servers that don't keep theirs
+pub kind_among : (v : ℕ) (kind : Kind) (keeper : Option ℕ) (found : List Listed) (k : Place) → IsGoingAmong (goes.OfKind v kind keeper) found k → IsKindAt v kind false keeper k
+kind_among v kind keeper found k (l, has, (is, at)) = (l.server, at ∙ ap (λ (f : FileName). (l.server, name_bytes f)) is.0, is.1)
+
+-- and they are gone, where they were listed
+pub kind_gone : (v : ℕ) (kind : Kind) (keeper : Option ℕ) → v < max_volumes → IsKind kind → (found : List Listed) (old new : Files) → AreListedBut keeper old v kind found
+    → LacksSome (IsGoingAmong (goes.OfKind v kind keeper) found) old new → AreGone (goes.OfKind v kind keeper) found new → (server : ℕ) → keeper ≢ Some server → new (place_of v server kind false) ≡ None
+kind_gone v kind keeper h is found old new all lacks gone server other =
+    listed_gone (goes.OfKind v kind keeper) found old new lacks gone (file_at v server kind false) (record { volume = h; kind = is }) (refl, other) (λ file. all server other file.stands)

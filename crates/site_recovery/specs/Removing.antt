@@ -1,5 +1,5 @@
 -- Which of the files that are listed are removed. For the recovery of coded volumes, to come.
-use Rattle.std.specs.Prelude.{◌≡◌, ℕ, ◌<◌, true, false, List, None, Contains}
+use Rattle.std.specs.Prelude.{◌≡◌, ◌≢◌, ℕ, ◌<◌, true, false, List, Option, Some, None, IsSome, Contains}
 use Rattle.site_model.specs.Disk.{Place, Files, IsSettled}
 use Rattle.file_names.specs.declared.Kind.{Kind}
 use Rattle.file_names.specs.Names.{IsKind, name_bytes, place_of, is_coded_kind}
@@ -19,6 +19,7 @@ abbrev pub IsGoing : Goes → Listed → Type 0
 IsGoing goes.Temporary l = l.file.temp ≡ true
 IsGoing goes.Coded l = (l.file.temp ≡ false) × (is_coded_kind l.file.kind ≡ true)
 IsGoing goes.Final l = l.file.temp ≡ false
+IsGoing (goes.OfKind volume kind keeper) l = (l.file ≡ record { volume = volume; kind = kind; temp = false }) × (keeper ≢ Some l.server)
 
 -- the place of this file, if it goes
 abbrev pub IsGoingAt : Goes → Listed → Place → Type 0
@@ -31,6 +32,11 @@ IsGoingAmong which found k = (l : Listed) × Contains found l × IsGoingAt which
 -- of the files that go none stands
 abbrev pub AreGone : Goes → List Listed → Files → Type 0
 AreGone which found files = (l : Listed) → Contains found l → IsGoing which l → files (place_in l) ≡ None
+
+-- each of these files of the volume that stands is among them, but the one that is kept
+abbrev pub AreListedBut : Option ℕ → Files → ℕ → Kind → List Listed → Type 0
+AreListedBut keeper files v kind found =
+    (server : ℕ) → keeper ≢ Some server → IsSome (files (place_of v server kind false)) → Contains found (record { server = server; file = record { volume = v; kind = kind; temp = false } })
 
 -- ---- what is left without them
 

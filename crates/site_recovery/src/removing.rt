@@ -1,5 +1,5 @@
 //! The removal of files that are listed. For the recovery of coded volumes, to come.
-ghost use Rattle.std.specs.Prelude.{◌≡◌, ◌<◌, ◌↔◌, IsTrue, IfErr, IsErrOf, OnOk};
+ghost use Rattle.std.specs.Prelude.{◌≡◌, ◌<◌, ◌↔◌, false, IsTrue, IfErr, IsErrOf, OnOk};
 ghost use Rattle.file_names.specs.Names.{IsName};
 ghost use Rattle.site_model.specs.Counts.{Calls};
 ghost use Rattle.coded_volume.specs.Checking.{IsSiteFault};
@@ -9,7 +9,7 @@ ghost use Rattle.site_recovery.specs.Removing.{IsGoing, IsGoingAt, IsGoingAmong,
 
 use crate::asking::clear_at;
 use crate::forms::{Goes, Listed};
-use file_names::spell;
+use file_names::{Kind, spell};
 use site_model::{OpenFault, Site};
 use std::alloc::Global;
 
@@ -63,5 +63,17 @@ fn is_going(listed: &Listed, goes: Goes) -> bool
         Goes::Temporary => listed.file.temp,
         Goes::Coded => !listed.file.temp && listed.file.kind.is_coded(),
         Goes::Final => !listed.file.temp,
+        Goes::OfKind {
+            volume,
+            kind,
+            keeper,
+        } => is_of_kind(listed, volume, kind) && keeper != Some(listed.server),
     }
+}
+
+// Whether it is the volume's file of this kind, and not temporary.
+fn is_of_kind(listed: &Listed, volume: u32, kind: Kind) -> bool
+    ensures { IsTrue result ↔ (listed.now.file ≡ record { volume = volume; kind = kind; temp = false }) }
+{
+    !listed.file.temp && listed.file.volume == volume && listed.file.kind == kind
 }

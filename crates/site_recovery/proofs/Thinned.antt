@@ -1,15 +1,13 @@
 -- How spare copies go, shard by shard.
-use Rattle.std.proofs.Common.{◌≡◌, ◌≢◌, inl, inr, ℕ, ◌+◌, ◌<◌, ◌≤◌, Bool, true, false, List, Option, Some, None, refl, sym, ◌∙◌, ap, subst, arith}
-use Rattle.std.specs.Prelude.{slice_index_or}
-use Rattle.std.proofs.lemmas.Bool.{cases_eq, cases_lt}
-use Rattle.site_model.specs.Disk.{Place, Files, Disk, IsPossible}
-use Rattle.file_names.specs.declared.Kind.{Kind}
-use Rattle.file_names.specs.Names.{max_shards, name_bytes, place_of}
-use Rattle.file_names.specs.declared.Kind.TheVariants.{Dat, Idx, Cpd, Cpx, Shard, Ecx, Ecj, Vif}
+use Rattle.std.proofs.Common.{◌≡◌, ◌≢◌, inl, inr, ℕ, ◌+◌, ◌<◌, false, Option, Some, None, sym, ◌∙◌, ap, subst, arith}
+use Rattle.std.proofs.lemmas.Bool.{cases_eq}
+use Rattle.site_model.specs.Disk.{Place, Files, Disk}
+use Rattle.file_names.specs.Names.{max_shards, place_of}
+use Rattle.file_names.specs.declared.Kind.TheVariants.{Dat, Cpd, Shard}
 use Rattle.image_meaning.specs.Files.{VolumeFiles, shard_home}
 use Rattle.site_recovery.specs.Changes.{IsKindAt, LacksSome, TakesAway}
-use Rattle.site_recovery.specs.CodedGone.{IsSpare, AreGoneBelow, IsUnkept, IsGoneBeside, ClearsUnless, IsBesideKind, IsStray, AreStraysGone}
-use Rattle.site_recovery.proofs.Taking.{takes_on, takes_more, takes_clear}
+use Rattle.site_recovery.specs.CodedGone.{IsSpare, AreGoneBelow}
+use Rattle.site_recovery.proofs.Taking.{takes_on, takes_more}
 use Rattle.site_recovery.proofs.Gone.{stays_gone}
 
 -- data files
@@ -44,54 +42,3 @@ module _ (v : ℕ) (files : VolumeFiles) where
       | inr less ↦ stays_gone (place_of v server (Shard j) false) lacks (below.no_copies j server (omega arith) other)
     ];
   }
-
--- ---- what stands beside no shard
-
-module _ (v : ℕ) (kind : Kind) (keeps : List Bool) where
-  abbrev spelled : List ℕ
-  spelled = name_bytes (record { volume = v; kind = kind; temp = false })
-
-  abbrev keep_at : ℕ → Bool
-  keep_at server = slice_index_or keeps server false
-
-  -- one server more
-  pub takes_beside : (server : ℕ) (name : List ℕ) (b : Bool) {old mid new : Disk} → name ≡ spelled → b ≡ keep_at server → TakesAway (IsUnkept v kind keeps) old mid → ClearsUnless b (server, name) mid new → TakesAway (IsUnkept v kind keeps) old new
-  takes_beside server name true {old} e same first did = subst (λ (d : Disk). TakesAway (IsUnkept v kind keeps) old d) (sym (did.kept refl)) first
-  takes_beside server name false e same first did = takes_on first (takes_clear (server, (λ i. (server, e i)), sym same) (did.cleared refl))
-
-  abbrev pub BesideBelow : ℕ → Files → Type 0
-  BesideBelow n files = (s : ℕ) → s < n → keep_at s ≡ false → files (place_of v s kind false) ≡ None
-
-  pub beside_none : (files : Files) → BesideBelow 0 files
-  beside_none files s low other = absurd (omega arith)
-
-  pub beside_more : {touched : Place → Type 0} (server : ℕ) (name : List ℕ) (b : Bool) (old new : Files) → name ≡ spelled → b ≡ keep_at server → LacksSome touched old new → BesideBelow server old
-      → (b ≡ false → new (server, name) ≡ None) → BesideBelow (server + 1) new
-  beside_more server name b old new e same lacks before here s low other = elim (cases_eq s server) [
-    | inl at ↦ subst (λ t. new (place_of v t kind false) ≡ None) (sym at) (subst (λ (n : List ℕ). new (server, n) ≡ None) e (here (same ∙ ap keep_at (sym at) ∙ other)))
-    | inr less ↦ stays_gone (place_of v s kind false) lacks (before s (omega arith) other)
-  ]
-
-  pub beside_all : {touched : Place → Type 0} (servers n : ℕ) (old new : Files) → IsPossible servers old → LacksSome touched old new → servers ≤ n → BesideBelow n new → IsGoneBeside v kind keeps new
-  beside_all servers n old new possible lacks all below s other = elim (cases_lt s n) [
-    | inl low ↦ below s low other
-    | inr high ↦ stays_gone (place_of v s kind false) lacks (possible.nowhere_else (place_of v s kind false) (omega arith))
-  ]
-
--- the files of one kind are strays
-pub stray_of : (v : ℕ) (kind : Kind) (keeps : List Bool) {old new : Disk} → IsBesideKind kind → TakesAway (IsUnkept v kind keeps) old new → TakesAway (IsStray v keeps) old new
-stray_of v kind keeps is takes = takes_more (λ k at. (at.0, kind, at.1, is, at.2)) takes
-
--- what is gone beside no shard stays gone
-pub beside_kept : {touched : Place → Type 0} (v : ℕ) (kind : Kind) (keeps : List Bool) (old new : Files) → LacksSome touched old new → IsGoneBeside v kind keeps old → IsGoneBeside v kind keeps new
-beside_kept v kind keeps old new lacks gone server other = stays_gone (place_of v server kind false) lacks (gone server other)
-
-pub strays_all : (v : ℕ) (keeps : List Bool) (files : Files) → IsGoneBeside v Ecx keeps files → IsGoneBeside v Ecj keeps files → IsGoneBeside v Vif keeps files → AreStraysGone v keeps files
-strays_all v keeps files ecx ecj vif server Dat is other = absurd is
-strays_all v keeps files ecx ecj vif server Idx is other = absurd is
-strays_all v keeps files ecx ecj vif server Cpd is other = absurd is
-strays_all v keeps files ecx ecj vif server Cpx is other = absurd is
-strays_all v keeps files ecx ecj vif server (Shard i) is other = absurd is
-strays_all v keeps files ecx ecj vif server Ecx is other = ecx server other
-strays_all v keeps files ecx ecj vif server Ecj is other = ecj server other
-strays_all v keeps files ecx ecj vif server Vif is other = vif server other

@@ -1,6 +1,6 @@
 -- Which copies of a coded volume's files may go. For the recovery of coded volumes, to come.
 use Rattle.std.proofs.Common.{◌≡◌, ◌≢◌, ◌⊎◌, inl, inr, ⊎_elim, ℕ, ◌<◌, Bool, false, true, List, Option, Some, None, sym, subst}
-use Rattle.std.specs.Prelude.{slice_index_or}
+use Rattle.std.specs.Prelude.{slice_index_or, Contains}
 use Rattle.site_model.specs.Disk.{Place, Files, Image, Disk}
 use Rattle.site_model.specs.Leaves.{weaker}
 use Rattle.whole_file.specs.Whole.{Clears}
@@ -86,13 +86,6 @@ AreCopiesGone v files new = AreGoneBelow v files max_shards new
 
 -- ---- what stands beside no shard
 
--- the file of this kind at a server that doesn't keep it
-abbrev pub IsUnkept : ℕ → Kind → List Bool → Place → Type 0
-IsUnkept v kind keeps k = (server : ℕ) × (k ≡ place_of v server kind false) × (slice_index_or keeps server false ≡ false)
-
-abbrev pub IsGoneBeside : ℕ → Kind → List Bool → Files → Type 0
-IsGoneBeside v kind keeps files = (server : ℕ) → slice_index_or keeps server false ≡ false → files (place_of v server kind false) ≡ None
-
 -- the file is removed, or kept with nothing done
 pub record ClearsUnless (keep : Bool) (p : Place) (old new : Disk) : Type 0 where
   pub kept : keep ≡ true → new ≡ old
@@ -117,3 +110,7 @@ IsStray v keeps k = (server : ℕ) × (kind : Kind) × (k ≡ place_of v server 
 
 abbrev pub AreStraysGone : ℕ → List Bool → Files → Type 0
 AreStraysGone v keeps files = (server : ℕ) (kind : Kind) → IsBesideKind kind → slice_index_or keeps server false ≡ false → files (place_of v server kind false) ≡ None
+
+-- of these servers none has the journal that doesn't keep it
+abbrev pub AreJournalsGone : ℕ → List ℕ → List Bool → Files → Type 0
+AreJournalsGone v servers keeps files = (server : ℕ) → Contains servers server → slice_index_or keeps server false ≡ false → files (place_of v server Ecj false) ≡ None

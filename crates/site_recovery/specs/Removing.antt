@@ -1,12 +1,14 @@
 -- Which of the files that are listed are removed. For the recovery of coded volumes, to come.
-use Rattle.std.specs.Prelude.{◌≡◌, ◌≢◌, ℕ, ◌<◌, true, false, List, Option, Some, None, IsSome, Contains}
+use Rattle.std.specs.Prelude.{◌≡◌, ◌≢◌, ℕ, ◌<◌, Bool, true, false, List, slice_index_or, Option, Some, None, IsSome, Contains}
 use Rattle.site_model.specs.Disk.{Place, Files, IsSettled}
 use Rattle.file_names.specs.declared.Kind.{Kind}
+use Rattle.file_names.specs.declared.Kind.TheVariants.{Ecj}
 use Rattle.file_names.specs.Names.{IsKind, name_bytes, place_of, is_coded_kind}
 use Rattle.image_meaning.specs.Files.{contents, files_of}
 use Rattle.image_meaning.specs.Meaning.{max_volumes}
 use Rattle.image_meaning.specs.Ends.{HasNoFiles}
 use Rattle.site_recovery.specs.Listing.{IsFileIn}
+use Rattle.site_recovery.specs.CodedGone.{IsBesideKind}
 use Rattle.site_recovery.specs.declared.forms.Listed.{Listed}
 use Rattle.site_recovery.specs.declared.forms.Goes.{Goes}
 use Rattle.site_recovery.specs.declared.forms.Goes.TheVariants as goes
@@ -20,6 +22,7 @@ IsGoing goes.Temporary l = l.file.temp ≡ true
 IsGoing goes.Coded l = (l.file.temp ≡ false) × (is_coded_kind l.file.kind ≡ true)
 IsGoing goes.Final l = l.file.temp ≡ false
 IsGoing (goes.OfKind volume kind keeper) l = (l.file ≡ record { volume = volume; kind = kind; temp = false }) × (keeper ≢ Some l.server)
+IsGoing (goes.Beside volume) l = (l.file.temp ≡ false) × (l.file.volume ≡ volume) × IsBesideKind l.file.kind
 
 -- the place of this file, if it goes
 abbrev pub IsGoingAt : Goes → Listed → Place → Type 0
@@ -33,6 +36,10 @@ IsGoingAmong which found k = (l : Listed) × Contains found l × IsGoingAt which
 abbrev pub AreGone : Goes → List Listed → Files → Type 0
 AreGone which found files = (l : Listed) → Contains found l → IsGoing which l → files (place_in l) ≡ None
 
+-- the same of a volume's texts, indexes and journals, at servers that don't keep them
+abbrev pub AreListedGone : ℕ → List Bool → List Listed → Files → Type 0
+AreListedGone v keeps found files = (l : Listed) → Contains found l → IsGoing (goes.Beside v) l → slice_index_or keeps l.server false ≡ false → files (place_in l) ≡ None
+
 -- each of these files of the volume that stands is among them, but the one that is kept
 abbrev pub AreListedBut : Option ℕ → Files → ℕ → Kind → List Listed → Type 0
 AreListedBut keeper files v kind found =
@@ -43,6 +50,15 @@ AreListedBut keeper files v kind found =
 -- all files of the volume are among these
 abbrev pub HasFilesOf : Files → ℕ → List Listed → Type 0
 HasFilesOf files v its = (l : Listed) → IsFileIn files l → l.file.volume ≡ v → Contains its l
+
+-- each of the volume's files that stands is among these, but temporary ones, and the journals at such servers
+abbrev pub HasFinalsBut : (ℕ → Type 0) → Files → ℕ → List Listed → Type 0
+HasFinalsBut journals files v its =
+    (server : ℕ) (kind : Kind) → IsKind kind → (kind ≡ Ecj → journals server → ⊥) → IsSome (files (place_of v server kind false)) → Contains its (record { server = server; file = record { volume = v; kind = kind; temp = false } })
+
+-- the same but for all journals
+abbrev pub HasAllButJournals : Files → ℕ → List Listed → Type 0
+HasAllButJournals files v its = HasFinalsBut (λ server. Unit {0}) files v its
 
 -- No temporary file is left, the others are as they were, and settled files stay settled.
 pub record AreTempsGone (old new : Files) : Type 0 where

@@ -4,6 +4,7 @@ ghost use Rattle.file_names.specs.Names.{IsName};
 ghost use Rattle.site_model.specs.Counts.{Calls};
 ghost use Rattle.coded_volume.specs.Checking.{IsSiteFault};
 ghost use Rattle.site_recovery.specs.Changes.{TakesAway};
+ghost use Rattle.site_recovery.specs.CodedGone.{IsBesideKind};
 ghost use Rattle.site_recovery.specs.Listing.{AreInOrder};
 ghost use Rattle.site_recovery.specs.Removing.{IsGoing, IsGoingAt, IsGoingAmong, AreGone, place_in};
 
@@ -33,8 +34,8 @@ pub(crate) fn remove_listed<T: Site>(
     Ok(())
 }
 
-// Removes the file, if it goes.
-fn remove_if<T: Site>(
+/// Removes the file, if it goes.
+pub(crate) fn remove_if<T: Site>(
     alloc: Global,
     site: &mut T,
     listed: &Listed,
@@ -68,6 +69,7 @@ fn is_going(listed: &Listed, goes: Goes) -> bool
             kind,
             keeper,
         } => is_of_kind(listed, volume, kind) && keeper != Some(listed.server),
+        Goes::Beside { volume } => is_beside(listed, volume),
     }
 }
 
@@ -76,4 +78,17 @@ fn is_of_kind(listed: &Listed, volume: u32, kind: Kind) -> bool
     ensures { IsTrue result ↔ (listed.now.file ≡ record { volume = volume; kind = kind; temp = false }) }
 {
     !listed.file.temp && listed.file.volume == volume && listed.file.kind == kind
+}
+
+// Whether it is the volume's text, its index or its journal, and not temporary.
+fn is_beside(listed: &Listed, volume: u32) -> bool
+    ensures { IsTrue result ↔ IsGoing (Goes.Beside volume) listed.now }
+{
+    !listed.file.temp && listed.file.volume == volume && is_beside_kind(listed.file.kind)
+}
+
+fn is_beside_kind(kind: Kind) -> bool
+    ensures { IsTrue result ↔ IsBesideKind kind }
+{
+    matches!(kind, Kind::Ecx | Kind::Ecj | Kind::Vif)
 }

@@ -98,6 +98,7 @@ module _ (v : ℕ) (h : v < max_volumes) (its : List Listed) (named : All (λ (l
   pub none_left : (old new : Files) → HasFilesOf old v its → LacksSome (IsGoingAmong goes.Final its) old new → AreGone goes.Final its new → IsVolumeGone v old new
   none_left old new all lacks gone = record {
     none = λ server kind low is. ap disk.standing (listed_gone goes.Final its old new lacks gone (file_at v server kind false) (record { volume = h; kind = is }) refl (λ file. all (file_at v server kind false) file refl));
+    temps = λ server kind is none. stays_gone (place_of v server kind true) lacks none;
     settled = λ settled. lacks_settled lacks settled;
   }
 

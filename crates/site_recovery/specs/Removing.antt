@@ -66,7 +66,8 @@ pub record AreTempsGone (old new : Files) : Type 0 where
   pub finals : (v server : ℕ) (kind : Kind) → v < max_volumes → IsKind kind → new (place_of v server kind false) ≡ old (place_of v server kind false)
   pub settled : IsSettled old → IsSettled new
 
--- The volume has no file left, and settled files stay settled.
+-- The volume has no file left, no temporary file is new, and settled files stay settled.
 pub record IsVolumeGone (v : ℕ) (old new : Files) : Type 0 where
   pub none : HasNoFiles (files_of (contents new) v)
+  pub temps : (server : ℕ) (kind : Kind) → IsKind kind → old (place_of v server kind true) ≡ None → new (place_of v server kind true) ≡ None
   pub settled : IsSettled old → IsSettled new

@@ -92,7 +92,7 @@ homes_more copies n d homes new least fits small before is same = record {
 
 module _ (copies : List ShardCopy) where
   -- a server with the shard has a copy of it
-  with_has : (server i : ℕ) → Contains (servers_with copies i) server → Contains copies (record { server = server; shard = i })
+  pub with_has : (server i : ℕ) → Contains (servers_with copies i) server → Contains copies (record { server = server; shard = i })
   with_has server i has =
       let found = map_has (λ (c : ShardCopy). c.server) (filter (λ c. eqb c.shard i) copies) server has in
       let kept = filter_has (λ c. eqb c.shard i) copies found.0 found.1 in

@@ -18,7 +18,7 @@ use Rattle.dat_volume.specs.Opening.{KeepsLengths}
 use Rattle.site_recovery.specs.Steps.{KeepsMeaning}
 use Rattle.site_recovery.specs.Laws.Step.{keeps_none, keeps_plain, reduced_thinned, kinds_apart}
 use Rattle.site_recovery.specs.Homes.{IsTestedPlain}
-use Rattle.site_recovery.specs.Changes.{IsOf, Settles, KeepsViews, HasNamedDat}
+use Rattle.site_recovery.specs.Changes.{IsOf, Settles, KeepsViews, KeepsOthers, HasNamedDat}
 use Rattle.site_recovery.specs.Renaming.{RenamesKind, IsRenamedKind}
 use Rattle.site_recovery.proofs.Places.{plain_kind}
 use Rattle.site_recovery.proofs.Taking.{settles_on}
@@ -66,6 +66,12 @@ module _ {from to : Place} {old new : Disk} (apart : from ≢ to) (did : Renames
     others = λ k a b. ap disk.standing (did.others k a b);
   }
 
+  pub renamed_others : (k : Place) → k ≢ to → (new.files k ≡ old.files k) ⊎ (new.files k ≡ None)
+  renamed_others k not_to = elim (place_cases k from) [
+    | inl same ↦ inr (subst (λ p. new.files p ≡ None) (sym same) (done.gone apart))
+    | inr other ↦ inl (did.others k other not_to)
+  ]
+
   pub renamed_settled : IsSettled old.files → IsSettled new.files
   renamed_settled settled k = elim (place_cases k from) [
     | inl same ↦ subst (λ p. IsFirm (new.files p)) (sym same) (subst IsFirm (sym (done.gone apart)) tt)
@@ -103,6 +109,9 @@ keeps_views_on first second = record {
 }
 
 -- ---- the renames of what a vacuum made
+
+pub others_same : (v home : ℕ) {old new : Disk} → new ≡ old → KeepsOthers v home old.files new.files
+others_same v home same k dat idx = inl (ap (λ (d : Disk). d.files k) same)
 
 module _ (v home : ℕ) (h : v < max_volumes) where
   abbrev at : Kind → Place
@@ -174,6 +183,9 @@ module _ (v home : ℕ) (h : v < max_volumes) where
           named = ap is_some moved.gone;
         }
 
+    pub dat_others : IsRenamedKind v home Cpd Dat look new → KeepsOthers v home start.files new.files
+    dat_others done k dat idx = renamed_others cpd_apart from_start (subst (λ (d : Disk). IsRenamedKind v home Cpd Dat d new) same done) k dat
+
   -- And then the index gets its own.
   module _ (start look mid new : Disk) (same : look ≡ start) (is : index_home (files_of (contents start.files) v) ≡ Some home) (first : HasNamedDat v home look.files mid.files)
       (did : RenamesKind v home Cpx Idx mid new) where
@@ -195,6 +207,12 @@ module _ (v home : ℕ) (h : v < max_volumes) where
         views = index_views (contents mid.files) (contents new.files) named.index named.named (renamed_moved cpx_apart did done);
         settled = renamed_settled cpx_apart did done;
       })
+
+      pub index_others : KeepsOthers v home look.files mid.files → KeepsOthers v home start.files new.files
+      index_others before k dat idx = ⊎_elim
+          (λ kept. subst (λ (d : Disk). (new.files k ≡ d.files k) ⊎ (new.files k ≡ None)) same (⊎_elim (λ was. inl (kept ∙ was)) (λ none. inr (kept ∙ none)) (before k dat idx)))
+          (λ none. inr none)
+          (renamed_others cpx_apart did done k idx)
 
       pub index_unmade : stands (files_of (contents new.files) v) home Cpx ≡ false
       index_unmade = ap is_some (renamed_moved cpx_apart did done).gone

@@ -30,7 +30,7 @@ abbrev file_at : ℕ → ℕ → Kind → Bool → Listed
 file_at v server kind temp = record { server = server; file = record { volume = v; kind = kind; temp = temp } }
 
 module _ (found : List Listed) (named : All (λ (l : Listed). IsName l.file) found) where
-  name_is : (l : Listed) → Contains found l → IsName l.file
+  pub name_is : (l : Listed) → Contains found l → IsName l.file
   name_is l has = All-contains (λ (l : Listed). IsName l.file) found l named has
 
   -- they have names
@@ -81,7 +81,7 @@ module _ (v : ℕ) (h : v < max_volumes) (its : List Listed) (named : All (λ (l
   going_of : (k : Place) → IsGoingAmong goes.Final its k → IsVolumeFile v k
   going_of k (l, has, (is, at)) = (l.server, l.file.kind, l.file.temp, (name_is its named l has).kind, at ∙ ap (λ (w : ℕ). place_of w l.server l.file.kind l.file.temp) (of_volume l has))
 
-  final_at : (k : Place) (l : Listed) → Contains its l → l.file.temp ≡ false → k ≡ place_in l → k ≡ place_of v l.server l.file.kind false
+  pub final_at : (k : Place) (l : Listed) → Contains its l → l.file.temp ≡ false → k ≡ place_in l → k ≡ place_of v l.server l.file.kind false
   final_at k l has is at = at ∙ ap (λ (w : ℕ). place_of w l.server l.file.kind l.file.temp) (of_volume l has) ∙ ap (λ (t : Bool). place_of v l.server l.file.kind t) is
 
   keeps_no_finals : (old new : Image) → mode_of (files_of old v) ≡ None → LacksSome (IsGoingAmong goes.Final its) old new → KeepsMeaning old new

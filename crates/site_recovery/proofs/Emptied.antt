@@ -22,7 +22,7 @@ use Rattle.site_recovery.specs.Listing.{IsFileIn, AreFilesIn}
 use Rattle.site_recovery.specs.Removing.{place_in, IsGoing, IsGoingAmong, AreGone, AreListedBut, HasFilesOf, AreTempsGone, IsVolumeGone}
 use Rattle.site_recovery.specs.Laws.Step.{keeps_temps, keeps_absent}
 use Rattle.site_recovery.proofs.Places.{same_place}
-use Rattle.site_recovery.proofs.Taking.{lacks_settled, settles_takes, settles_more}
+use Rattle.site_recovery.proofs.Taking.{lacks_settled, lacks_standing, settles_takes, settles_more}
 use Rattle.site_recovery.proofs.Gone.{stays_gone}
 
 -- the file of these parts
@@ -95,8 +95,9 @@ module _ (v : ℕ) (h : v < max_volumes) (its : List Listed) (named : All (λ (l
   pub none_settled : {old new : Disk} → mode_of (files_of (contents old.files) v) ≡ None → TakesAway (IsGoingAmong goes.Final its) old new → Settles (IsVolumeFile v) old new
   none_settled {old} absent takes = settles_more going_of (settles_takes (λ image lacks. keeps_no_finals (contents old.files) image absent lacks) takes)
 
-  pub none_left : (old new : Files) → HasFilesOf old v its → LacksSome (IsGoingAmong goes.Final its) old new → AreGone goes.Final its new → IsVolumeGone v old new
-  none_left old new all lacks gone = record {
+  pub none_left : (old new : Files) → mode_of (files_of (contents old) v) ≡ None → HasFilesOf old v its → LacksSome (IsGoingAmong goes.Final its) old new → AreGone goes.Final its new → IsVolumeGone v old new
+  none_left old new absent all lacks gone = record {
+    keeps = keeps_no_finals (contents old) (contents new) absent (lacks_standing lacks);
     none = λ server kind low is. ap disk.standing (listed_gone goes.Final its old new lacks gone (file_at v server kind false) (record { volume = h; kind = is }) refl (λ file. all (file_at v server kind false) file refl));
     temps = λ server kind is none. stays_gone (place_of v server kind true) lacks none;
     settled = λ settled. lacks_settled lacks settled;

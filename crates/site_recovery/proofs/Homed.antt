@@ -154,6 +154,19 @@ homes_below servers count copies homes same are of k d short server at =
 pub shards_none : (servers : ℕ) → HasShardsOf [] (record { servers = servers; rows = empty })
 shards_none servers = record { each = λ t has. absurd (none_in t has); others = λ v none. ap (λ o. unwrap_or o no_places) (get-empty nat_cmp v) }
 
+-- the volumes before one are others
+pub earlier_apart : (tested : List TestedGroup) (n : ℕ) (d : TestedGroup) → n < length tested → IsStrictlyIncreasing (map (λ (t : TestedGroup). t.group.volume) tested)
+    → (u : TestedGroup) → Contains (take n tested) u → u.group.volume ≢ (slice_index_or tested n d).group.volume
+earlier_apart tested n d fits rise u (k, low, at) same =
+    let volumes : List ℕ = map (λ (t : TestedGroup). t.group.volume) tested in
+    let long : length volumes ≡ length tested = length-map tested (λ (t : TestedGroup). t.group.volume) in
+    let before : k < n = omega (arith, low, length-take n tested) in
+    let one : slice_index_or volumes k u.group.volume ≡ u.group.volume =
+    get_or-map (λ (t : TestedGroup). t.group.volume) tested k u u.group.volume (omega (arith, before, fits)) ∙ ap (λ (t : TestedGroup). t.group.volume) (sym (get_or-take n tested k u before) ∙ at) in
+    let two : slice_index_or volumes n u.group.volume ≡ (slice_index_or tested n d).group.volume = get_or-map (λ (t : TestedGroup). t.group.volume) tested n d u.group.volume fits in
+    let less = AllPairs-from_increasing volumes rise k n u.group.volume before (omega (arith, long, fits)) in
+    omega (arith, less, one, two, same)
+
 -- a coded volume has its row as before, where another one gets its own
 homes_kept : (v w : ℕ) (old new : Table) → v ≢ w → HasRow w (row_of new w) old new → (f : ListedForm) → HasHomesIn old v f → HasHomesIn new v f
 homes_kept v w old new apart set (form.Plain home dat idx) has = tt
@@ -190,17 +203,8 @@ module _ (tested : List TestedGroup) (n : ℕ) (d : TestedGroup) (fits : n < len
   shards_skip none = subst (λ (ts : List TestedGroup). HasShardsOf ts old) (sym more) (skip_this none)
 
   module _ (rise : IsStrictlyIncreasing (map (λ (t : TestedGroup). t.group.volume) tested)) where
-    -- those before it are other volumes
     apart : (u : TestedGroup) → Contains (take n tested) u → u.group.volume ≢ this.group.volume
-    apart u (k, low, at) same =
-        let volumes : List ℕ = map (λ (t : TestedGroup). t.group.volume) tested in
-        let long : length volumes ≡ length tested = length-map tested (λ (t : TestedGroup). t.group.volume) in
-        let before : k < n = omega (arith, low, length-take n tested) in
-        let one : slice_index_or volumes k u.group.volume ≡ u.group.volume =
-        get_or-map (λ (t : TestedGroup). t.group.volume) tested k u u.group.volume (omega (arith, before, fits)) ∙ ap (λ (t : TestedGroup). t.group.volume) (sym (get_or-take n tested k u before) ∙ at) in
-        let two : slice_index_or volumes n u.group.volume ≡ this.group.volume = get_or-map (λ (t : TestedGroup). t.group.volume) tested n d u.group.volume fits in
-        let less = AllPairs-from_increasing volumes rise k n u.group.volume before (omega (arith, long, fits)) in
-        omega (arith, less, one, two, same)
+    apart = earlier_apart tested n d fits rise
 
     number_is : (u : TestedGroup) (v : ℕ) → coded_number u ≡ Some v → u.group.volume ≡ v
     number_is u v e = by_form u.form e

@@ -8,6 +8,7 @@ use Rattle.image_meaning.specs.Files.{contents, files_of}
 use Rattle.image_meaning.specs.Meaning.{max_volumes}
 use Rattle.image_meaning.specs.Ends.{HasNoFiles}
 use Rattle.site_recovery.specs.Listing.{IsFileIn}
+use Rattle.site_recovery.specs.Steps.{KeepsMeaning}
 use Rattle.site_recovery.specs.CodedGone.{IsBesideKind}
 use Rattle.site_recovery.specs.declared.forms.Listed.{Listed}
 use Rattle.site_recovery.specs.declared.forms.Goes.{Goes}
@@ -66,8 +67,9 @@ pub record AreTempsGone (old new : Files) : Type 0 where
   pub finals : (v server : ℕ) (kind : Kind) → v < max_volumes → IsKind kind → new (place_of v server kind false) ≡ old (place_of v server kind false)
   pub settled : IsSettled old → IsSettled new
 
--- The volume has no file left, no temporary file is new, and settled files stay settled.
+-- The volume has no file left, and no other one means less. No temporary file is new, and settled files stay settled.
 pub record IsVolumeGone (v : ℕ) (old new : Files) : Type 0 where
   pub none : HasNoFiles (files_of (contents new) v)
+  pub keeps : KeepsMeaning (contents old) (contents new)
   pub temps : (server : ℕ) (kind : Kind) → IsKind kind → old (place_of v server kind true) ≡ None → new (place_of v server kind true) ≡ None
   pub settled : IsSettled old → IsSettled new

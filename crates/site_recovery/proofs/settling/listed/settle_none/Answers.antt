@@ -8,5 +8,5 @@ returns-clause-effect g c = λ told.
 
 pub returns-clause-done : goal.returns-clause-done
 returns-clause-done g c = on_ok c.remove_listed.result (λ gone. λ told.
-    none_left c.args.volume c.ranges.volume.fits c.args.files.now c.requires.order.named c.requires.of (g.T.Site.disk c.args.site.now).files (g.T.Site.disk c.remove_listed.new.site).files (c.requires.files told)
+    none_left c.args.volume c.ranges.volume.fits c.args.files.now c.requires.order.named c.requires.of (g.T.Site.disk c.args.site.now).files (g.T.Site.disk c.remove_listed.new.site).files (c.requires.absent told) (c.requires.files told)
     (c.remove_listed.ensures.effect told).files (gone told)) c.remove_listed.ensures.done

@@ -262,6 +262,7 @@ module _ (v : ℕ) (h : v < max_volumes) (ids : List ℕ) (fit : AreIds ids) (st
               settled_coded = record {
                 tested = three_tested;
                 left = left_coded;
+                ids_fit = fit;
                 keeps = three_keeps;
                 temps = no_temp;
                 settled = λ settled. lacks_settled strays.files (two_settled settled);

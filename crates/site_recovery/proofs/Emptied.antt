@@ -1,9 +1,8 @@
 -- What is left where listed files are removed.
-use Rattle.std.proofs.Common.{◌≡◌, ◌≢◌, inl, inr, ⊎_elim, ℕ, ◌<◌, Bool, true, false, List, Option, Some, None, is_some, refl, sym, ◌∙◌, ap}
+use Rattle.std.proofs.Common.{◌≡◌, ◌≢◌, inl, inr, ⊎_elim, ℕ, ◌<◌, Bool, true, false, List, Option, Some, None, is_some, refl, ◌∙◌, ap, subst}
 use Rattle.std.specs.Prelude.{Contains}
 use Rattle.std.specs.List.{All}
 use Rattle.std.proofs.lemmas.List.Elements.{All-contains}
-use mathlib.Core.Bool.{true≢false}
 use Rattle.site_model.specs.Disk.{Place, File, Files, Image, Disk}
 use Rattle.site_model.specs.Disk as disk
 use Rattle.file_names.specs.declared.Kind.{Kind}
@@ -11,6 +10,8 @@ use Rattle.file_names.specs.declared.FileName.{FileName}
 use Rattle.file_names.specs.Names.{IsKind, IsName, name_bytes, place_of}
 use Rattle.image_meaning.specs.Files.{contents, files_of}
 use Rattle.image_meaning.specs.Meaning.{mode_of, max_volumes}
+use Rattle.image_meaning.specs.Laws.Copy.{temp_apart, volumes_apart}
+use Rattle.std.proofs.lemmas.Bool.{cases_eq}
 use Rattle.site_recovery.specs.declared.forms.Listed.{Listed}
 use Rattle.site_recovery.specs.declared.forms.Goes.{Goes}
 use Rattle.site_recovery.specs.declared.forms.Goes.TheVariants as goes
@@ -21,7 +22,6 @@ use Rattle.site_recovery.specs.CodedSettling.{IsVolumeFile}
 use Rattle.site_recovery.specs.Listing.{IsFileIn, AreFilesIn}
 use Rattle.site_recovery.specs.Removing.{place_in, IsGoing, IsGoingAmong, AreGone, AreListedBut, HasFilesOf, AreTempsGone, IsVolumeGone}
 use Rattle.site_recovery.specs.Laws.Step.{keeps_temps, keeps_absent}
-use Rattle.site_recovery.proofs.Places.{same_place}
 use Rattle.site_recovery.proofs.Taking.{lacks_settled, lacks_standing, settles_takes, settles_more}
 use Rattle.site_recovery.proofs.Gone.{stays_gone}
 
@@ -59,18 +59,23 @@ listed_gone which found old new lacks gone l name is among = by_old (old (place_
     by_old None e = stays_gone (place_in l) lacks e
     by_old (Some x) e = gone l (among (record { named = name; stands = ap is_some e })) is
 
+-- a final file is none of the temporary ones
+final_apart : (v w server t : ℕ) (kind other : Kind) → v < max_volumes → w < max_volumes → place_of v server kind false ≢ place_of w t other true
+final_apart v w server t kind other h k = elim (cases_eq v w) [
+  | inl same ↦ subst (λ u. place_of v server kind false ≢ place_of u t other true) same (temp_apart v server t kind other h)
+  | inr apart ↦ volumes_apart v w server t kind other false true h k apart
+]
+
 pub temps_gone : (found : List Listed) → All (λ (l : Listed). IsName l.file) found → (old new : Files) → AreFilesIn old found → LacksSome (IsGoingAmong goes.Temporary found) old new → AreGone goes.Temporary found new → AreTempsGone old new
 temps_gone found named old new are lacks gone = record {
   gone = λ v server kind h is. listed_gone goes.Temporary found old new lacks gone (file_at v server kind true) (record { volume = h; kind = is }) refl (λ file. (are (file_at v server kind true)).1 file);
-  finals = λ v server kind h is. ⊎_elim (λ same. same) (λ taken. absurd (temp v server kind h is taken.0)) (lacks (place_of v server kind false));
+  finals = λ v server kind h. ⊎_elim (λ same. same) (λ taken. absurd (temp v server kind h taken.0)) (lacks (place_of v server kind false));
+  keeps = keeps_no_temps found named (contents old) (contents new) (lacks_standing lacks);
   settled = λ settled. lacks_settled lacks settled;
 }
   where
-    temp : (v server : ℕ) (kind : Kind) → v < max_volumes → IsKind kind → IsGoingAmong goes.Temporary found (place_of v server kind false) → ⊥
-    temp v server kind h is (l, has, (going, at)) =
-        let name = name_is found named l has in
-        let same = same_place v l.file.volume server l.server kind l.file.kind false true h name.volume is name.kind (temp_at found named (place_of v server kind false) l going at) in
-        true≢false (sym same.temps)
+    temp : (v server : ℕ) (kind : Kind) → v < max_volumes → IsGoingAmong goes.Temporary found (place_of v server kind false) → ⊥
+    temp v server kind h (l, has, (going, at)) = final_apart v l.file.volume server l.server kind l.file.kind h (name_is found named l has).volume (temp_at found named (place_of v server kind false) l going at)
 
 -- ---- an absent volume
 

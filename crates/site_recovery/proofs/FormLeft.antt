@@ -78,7 +78,7 @@ module _ (v : ℕ) (old new : Files) where
     left = record {
       same_mode = is.tested.coded ∙ sym was.coded;
       plain = λ home there. one_mode (mode_of before) mode.Coded mode.Plain coded_plain was.coded (is_plain before home there);
-      coded = λ coded. record { ids = ids; was = was; tested = is.tested; left = is.left };
+      coded = λ coded. record { ids = ids; was = was; tested = is.tested; left = is.left; ids_fit = is.ids_fit };
       lost = λ lost. one_mode (mode_of before) mode.Coded mode.Lost coded_lost was.coded lost;
       absent = λ none. no_mode (mode_of before) mode.Coded was.coded none;
     };

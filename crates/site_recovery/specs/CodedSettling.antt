@@ -9,6 +9,7 @@ use Rattle.site_model.specs.declared.error.OpenFault.TheVariants as open_fault
 use Rattle.image_meaning.specs.Sound.{IsCoded, IsLost, HasOneRatio}
 use Rattle.image_meaning.specs.Coded.{volume_info}
 use Rattle.image_meaning.specs.CodedTests.{PassesCoded, FailsCodedFirst}
+use Rattle.wire_num.specs.Laws.Pair.{AreIds}
 use Rattle.coded_volume.specs.declared.checking.Checked.{Checked}
 use Rattle.site_recovery.specs.Steps.{KeepsMeaning}
 use Rattle.site_recovery.specs.CodedSteps.{IsLeftCoded}
@@ -28,6 +29,7 @@ pub record IsTestedCoded (files : VolumeFiles) (ids : List ℕ) : Type 0 where
 pub record IsSettledCoded (v : ℕ) (ids : List ℕ) (old new : Files) : Type 0 where
   pub tested : IsTestedCoded (files_of (contents new) v) ids
   pub left : IsLeftCoded (files_of (contents old) v) (files_of (contents new) v) ids
+  pub ids_fit : AreIds ids
   pub keeps : KeepsMeaning (contents old) (contents new)
   pub temps : (server : ℕ) (kind : Kind) → IsKind kind → old (place_of v server kind true) ≡ None → new (place_of v server kind true) ≡ None
   pub settled : IsSettled old → IsSettled new

@@ -8,6 +8,7 @@ use Rattle.image_meaning.specs.Plain.{index_home}
 use Rattle.image_meaning.specs.Meaning.{mode_of, max_volumes}
 use Rattle.image_meaning.specs.Ends.{HasNoFiles}
 use Rattle.image_meaning.specs.Sound.{IsCoded, IsLost}
+use Rattle.wire_num.specs.Laws.Pair.{AreIds}
 use Rattle.site_recovery.specs.Recovering.{IsLeftPlain}
 use Rattle.site_recovery.specs.Steps.{KeepsMeaning}
 use Rattle.site_recovery.specs.CodedSteps.{IsLeftCoded}
@@ -27,6 +28,7 @@ pub record IsLeftAsCoded (old new : VolumeFiles) : Type 0 where
   pub was : IsTestedCoded old ids
   pub tested : IsTestedCoded new ids
   pub left : IsLeftCoded old new ids
+  pub ids_fit : AreIds ids
 
 -- The volume is of the form that it had, and its files are what recovery makes of them.
 pub record AreLeft (old new : VolumeFiles) : Type 0 where

@@ -61,10 +61,11 @@ HasFinalsBut journals files v its =
 abbrev pub HasAllButJournals : Files → ℕ → List Listed → Type 0
 HasAllButJournals files v its = HasFinalsBut (λ server. Unit {0}) files v its
 
--- No temporary file is left, the others are as they were, and settled files stay settled.
+-- No temporary file is left, the others are as they were, and no volume means less. Settled files stay settled.
 pub record AreTempsGone (old new : Files) : Type 0 where
   pub gone : (v server : ℕ) (kind : Kind) → v < max_volumes → IsKind kind → new (place_of v server kind true) ≡ None
-  pub finals : (v server : ℕ) (kind : Kind) → v < max_volumes → IsKind kind → new (place_of v server kind false) ≡ old (place_of v server kind false)
+  pub finals : (v server : ℕ) (kind : Kind) → v < max_volumes → new (place_of v server kind false) ≡ old (place_of v server kind false)
+  pub keeps : KeepsMeaning (contents old) (contents new)
   pub settled : IsSettled old → IsSettled new
 
 -- The volume has no file left, and no other one means less. No temporary file is new, and settled files stay settled.

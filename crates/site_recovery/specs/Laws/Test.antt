@@ -167,7 +167,7 @@ there None e = absurd (true≢false (sym e))
 there (Some bytes) e = refl
 
 -- It is tidy, means what it meant, and is sound.
-abbrev IsTidiedVolume : VolumeFiles → VolumeFiles → VolumeFiles → Type 0
+abbrev pub IsTidiedVolume : VolumeFiles → VolumeFiles → VolumeFiles → Type 0
 IsTidiedVolume old new temps = IsTidyVolume new temps × (volume_of new ≡ volume_of old) × IsSoundVolume new
 
 module _ (old new temps : VolumeFiles) (home : ℕ) (at : index_home old ≡ Some home) (sound : IsSoundVolume old) (none : HasNoFiles temps) (left : IsLeftPlain old new home) where
@@ -206,7 +206,7 @@ module _ (old new temps : VolumeFiles) (home : ℕ) (at : index_home old ≡ Som
     alone = left.alone;
   }
 
-  left_plain : IsTidiedVolume old new temps
+  pub left_plain : IsTidiedVolume old new temps
   left_plain =
       let exact = cut_exact (dat_bytes old home) (index_bytes old home) left_long in (
         alone_tidy new temps home new_dat new_idx left_only (kept_at old home) exact none,
@@ -215,7 +215,7 @@ module _ (old new temps : VolumeFiles) (home : ℕ) (at : index_home old ≡ Som
       )
 
 -- a lost volume's files are as they were
-left_lost : (old new temps : VolumeFiles) → mode_of old ≡ Some mode.Lost → new ≡ old → IsSoundVolume old → HasNoFiles temps → IsTidiedVolume old new temps
+pub left_lost : (old new temps : VolumeFiles) → mode_of old ≡ Some mode.Lost → new ≡ old → IsSoundVolume old → HasNoFiles temps → IsTidiedVolume old new temps
 left_lost old new temps lost same sound none =
     (record { no_temps = none; plain = λ p. absurd (other (sym p ∙ is_lost)); coded = λ c. absurd (another (sym c ∙ is_lost)); absent = λ a. absurd (none_some (sym a ∙ is_lost)) }, ap volume_of same, subst IsSoundVolume (sym same) sound)
   where
@@ -232,7 +232,7 @@ left_lost old new temps lost same sound none =
     none_some e = cc
 
 -- an absent one has none
-left_absent : (old new temps : VolumeFiles) → mode_of old ≡ None → HasNoFiles new → HasNoFiles temps → IsTidiedVolume old new temps
+pub left_absent : (old new temps : VolumeFiles) → mode_of old ≡ None → HasNoFiles new → HasNoFiles temps → IsTidiedVolume old new temps
 left_absent old new temps absent no_files none =
     (no_files_tidy new temps no_files none, absent_means new (no_files_absent new no_files) ∙ sym (absent_means old (absent_by old absent)), absent_sound new (no_files_absent new no_files))
 

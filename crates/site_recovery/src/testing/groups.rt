@@ -1,5 +1,5 @@
 //! The tests of all volumes, by their files that are listed. For the recovery of coded volumes, to come.
-ghost use Rattle.std.specs.Prelude.{◌≡◌, IsTrue, IfOk, IfErr, IsErrOf};
+ghost use Rattle.std.specs.Prelude.{◌≡◌, IsTrue, IfOk, IfErr, IsErrOf, map};
 ghost use Rattle.std.specs.List.{All};
 ghost use Rattle.site_model.specs.Counts.{Calls};
 ghost use Rattle.site_recovery.specs.Listing.{AreFilesIn, AreGroups, AreInOrder};
@@ -25,6 +25,7 @@ pub(crate) fn test_groups<T: Site>(
     ensures tested { IfOk result (λ tested. IsTrue T.tells
         → AreTestedGroups (T.disk site.old).files groups.now tested.items) }
     ensures within { IfOk result (λ tested. All (λ t. IsWithin (T.servers site.old) t.form) tested.items) }
+    ensures same_groups { IfOk result (λ tested. map (λ t. t.group) tested.items ≡ groups.now) }
     ensures unsound { IfErr result (λ fault. IsTrue T.tells → TellsFirstFault (T.disk site.old).files fault) }
     ensures same { IsTrue T.tells → T.disk site.new ≡ T.disk site.old }
     ensures runs { Calls T.counts T.servers site.old site.new (λ s. IsErrOf result (OpenFault.Fault s)) }

@@ -1,8 +1,8 @@
-use Rattle.std.proofs.Common.{◌+◌, ◌∙◌, List, take, subst, sym}
+use Rattle.std.proofs.Common.{◌+◌, ◌∙◌, List, [], ◌∷◌, ◌++◌, map, take, ap, subst, sym}
 use Rattle.std.specs.Prelude.{slice_index_or}
 use Rattle.std.specs.List.{All}
 use Rattle.std.proofs.lemmas.Result.{err_from_is_err_and}
-use Rattle.std.proofs.lemmas.List.{take_all}
+use Rattle.std.proofs.lemmas.List.{map-append, take_all, take_more}
 use Rattle.std.proofs.lemmas.List.Elements.{All-push}
 use Rattle.site_model.specs.Disk.{Disk}
 use Rattle.coded_volume.specs.Checking.{files_on}
@@ -49,6 +49,9 @@ loop-group-preserved g c =
           subst (λ (tested : List TestedGroup). All (λ (t : TestedGroup). IsWithin (g.T.Site.servers c.args.site.now) t.form) tested) (sym c.in_ok-push.ensures.items)
           (All-push (λ (t : TestedGroup). IsWithin (g.T.Site.servers c.args.site.now) t.form) c.loop-group.tested.items (record { group = group; form = c.in_ok-form.form }) c.loop-group.invariant.within
           (subst (λ n. IsWithin n c.in_ok-form.form) c.loop-group.invariant.runs.servers c.in_ok-form.ensures.within));
+      same_groups = ap (map (λ (t : TestedGroup). t.group)) c.in_ok-push.ensures.items
+          ∙ map-append (λ (t : TestedGroup). t.group) c.loop-group.tested.items (record { group = group; form = c.in_ok-form.form } ∷ []) ∙ ap (λ (l : List Group). l ++ group ∷ []) c.loop-group.invariant.same_groups
+          ∙ sym (take_more c.args.groups.now c.loop-group.group-index (record { volume = 0; start = 0; end = 0 }) c.loop-group-test.true);
       tested = λ told.
           subst (λ (tested : List TestedGroup). AreTestedGroups (g.T.Site.disk c.args.site.now).files (take (c.loop-group.group-index + 1) c.args.groups.now) tested) (sym c.in_ok-push.ensures.items)
           (groups_next (g.T.Site.disk c.args.site.now).files c.args.groups.now c.loop-group.group-index (record { volume = 0; start = 0; end = 0 }) c.loop-group-test.true c.loop-group.tested.items (c.loop-group.invariant.tested told) c.in_ok-form.form
@@ -58,3 +61,6 @@ loop-group-preserved g c =
 pub returns-clause-tested : goal.returns-clause-tested
 returns-clause-tested g c = λ told.
     subst (λ (groups : List Group). AreTestedGroups (g.T.Site.disk c.args.site.now).files groups c.loop-group.tested.items) (take_all c.loop-group.group-index c.args.groups.now c.loop-group-test.false) (c.loop-group.invariant.tested told)
+
+pub returns-clause-same_groups : goal.returns-clause-same_groups
+returns-clause-same_groups g c = c.loop-group.invariant.same_groups ∙ take_all c.loop-group.group-index c.args.groups.now c.loop-group-test.false

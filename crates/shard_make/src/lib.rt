@@ -8,5 +8,5 @@ mod reading;
 mod tests;
 mod writing;
 
-pub use making::make_piece;
+pub use making::{make_piece, row_place};
 pub use names::ShardNames;

@@ -109,8 +109,8 @@ fn pieces_of_row(geometry: &Geometry, dat_size: u64, row: u64, at: u64) -> RowPi
     }
 }
 
-// Where the blocks of a row begin in each shard, and their size.
-pub(crate) fn row_place(geometry: &Geometry, dat_size: u64, row: u64) -> (u64, u64)
+/// Where the blocks of a row begin in each shard, and their size. A row is one of those of a data file of this size.
+pub fn row_place(geometry: &Geometry, dat_size: u64, row: u64) -> (u64, u64)
     requires geometry { GeometryInRange geometry.now }
     requires size { dat_size ≤ max_dat }
     requires row { row < all_rows geometry.now dat_size }
